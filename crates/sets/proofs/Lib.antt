@@ -1,0 +1,9 @@
+pub mod Tests
+pub mod Search
+pub mod Bits
+pub mod Members
+pub mod Within
+pub mod Count
+pub mod Words
+pub mod Range
+pub mod Unique

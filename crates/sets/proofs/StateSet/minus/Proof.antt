@@ -1,0 +1,21 @@
+use borrow.Author.Needs.{needs}
+use Rattle.sets.proofs.StateSet.minus.Statement.{statement}
+use Rattle.sets.proofs.StateSet.minus.Tie as tie
+use Rattle.sets.proofs.Words.{proper-words, minus-words}
+
+returns : tie.Need-returns
+returns c = minus-words (c .before .before .before .before .before .before .before .before .args .t1 .words) (c .before .before .before .before .before .before .before .before .args .t2 .words) (proper-words _ (search needs) (λ j. search needs)) (proper-words _ (search needs) (λ j. search needs))
+
+pub minus-spec : {M : Type 1} → statement M
+minus-spec =
+    tie.close
+    (tie.spec
+    (λ c. search needs)
+    (λ c. search needs)
+    (λ c. search needs)
+    (λ c. search needs)
+    (λ c. search needs)
+    (λ c. search needs)
+    (λ c. search needs)
+    (λ c. search needs)
+    returns)
