@@ -7,7 +7,7 @@ use mathlib.Core.Bool.{Bool, true, false, not, _&&_, _||_}
 use mathlib.Core.List.{[], _∷_}
 use lib.Dec.{eqb, ltb}
 use lib.ListN.{getD, length}
-use Rattle.sets.specs.Sets.{Set, bit, member, wordOf, setOf, empty, full, sound, meet, join, minus, with, smallest}
+use Rattle.sets.specs.Sets.{Set, Proper, bit, member, wordOf, setOf, empty, full, sound, meet, join, minus, with, smallest}
 use Rattle.sets.proofs.Bits.{bit-zero, bit-pack, pack-out, pack-lt, pack-of, pack-ext, pack-pad}
 use Rattle.sets.proofs.Search.{Least, least-is, all-says}
 use Rattle.sets.proofs.Tests.{passed, passes, fails, clash, never, implied, not-implied, leb-says, lt-or-ge}
@@ -65,10 +65,7 @@ unfolding setOf
 set-pad N big p low =
     rw (word-pad N big p low 0 (omega arith), word-pad N big p low 1 (omega arith), word-pad N big p low 2 (omega arith), word-pad N big p low 3 (omega arith))
 
--- ---- a set that is the set of its own members: four words of 64 bits with no member from N up
-pub record Proper (N : ℕ) (x : Set) : Type 0 where
-  pub is : setOf N (member x) ≡ x
-
+-- ---- proper sets
 pub proper-length : (N : ℕ) (x : Set) → Proper N x → length x ≡ 4
 unfolding setOf
 proper-length N x h = rw (← (h .is))

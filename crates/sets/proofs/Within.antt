@@ -6,8 +6,8 @@ use mathlib.Core.Logic.{inl, inr}
 use mathlib.Core.Bool.{Bool, true, false, not, _&&_, _||_}
 use lib.Dec.{ltb}
 use Rattle.sets.specs.Search.{all}
-use Rattle.sets.specs.Sets.{Set, member, within, empty, full, sound, meet}
-use Rattle.sets.proofs.Members.{Proper, proper-past, member-empty, member-full, member-meet, set-pad}
+use Rattle.sets.specs.Sets.{Set, Proper, member, within, empty, full, sound, meet}
+use Rattle.sets.proofs.Members.{proper-past, member-empty, member-full, member-meet, set-pad}
 use Rattle.sets.proofs.Search.{all-says}
 use Rattle.sets.proofs.Tests.{Says, pass, fail, passed, failed, passes, fails, clash, and-true, and-intro, implied, not-implied, leb-says, lt-or-ge}
 

@@ -18,9 +18,9 @@ use lib.Seq.{ext-getD, sets, set-out, drop-cons, getD-set-same, getD-set-other}
 use mir.Syntax.{w64}
 use mir.Val.{Fits}
 use Rattle.sets.specs.Search.{sum}
-use Rattle.sets.specs.Sets.{Set, digit, bit, member, wordOf, setOf, full, within, meet, join, minus, with, count, smallest, quad}
+use Rattle.sets.specs.Sets.{Set, Proper, digit, bit, member, wordOf, setOf, full, within, meet, join, minus, with, count, smallest, quad}
 use Rattle.sets.proofs.Bits.{bit-and, bit-or, bit-not, bit-shift, bit-power, eqb-odd, pack-true, ones-sum, First, trailing-first}
-use Rattle.sets.proofs.Members.{Proper, proper-four, proper-of, proper-ext, proper-length, proper-word, member-of, member-word, set-ext}
+use Rattle.sets.proofs.Members.{proper-four, proper-of, proper-ext, proper-length, proper-word, member-of, member-word, set-ext}
 use Rattle.sets.proofs.Search.{here, nowhere, least-of, sum-add, sum-ext}
 use Rattle.sets.proofs.Tests.{Says, pass, fail, and-true, which, eqb-says, lt-or-ge, same-or}
 use Rattle.sets.proofs.Within.{Within, Beyond, within-says, not-both}

@@ -3,6 +3,7 @@ use Prim.Native.Nat.{ℕ, zero, suc, _+_, _-_, _*_, _/_, _%_, min}
 use mathlib.Core.Bool.{Bool, true, false, not, _&&_, _||_, cond}
 use mathlib.Core.List.{List, [], _∷_}
 use mathlib.Core.Option.{Option}
+use mathlib.Core.Path.{_≡_}
 use lib.Dec.{eqb, leb, ltb}
 use lib.ListN.{getD}
 use Rattle.answers.specs.Refusals.{noRefusal, outOfRange}
@@ -56,6 +57,10 @@ within N x y = all N (λ s. not (member x s) || member y s)
 -- no member from N up
 unfoldable pub sound : ℕ → Set → Bool
 sound N x = all 256 (λ s. not (member x s) || ltb s N)
+
+-- four words of 64 bits with no member from N up: the set of its own members
+pub record Proper (N : ℕ) (x : Set) : Type 0 where
+  pub is : setOf N (member x) ≡ x
 
 -- the states below N in both, in either, in x and not in y
 unfoldable pub meet : ℕ → Set → Set → Set

@@ -1,0 +1,79 @@
+-- What a run leaves and counts, and budgets: b rules, then c rules more.
+use Prim.Native.Nat.{ℕ, zero, suc, _+_, _≤_, _<_}
+use native.Mathlib.Nat.{zero-add, add-assoc, suc-add, add-zero}
+use native.Mathlib.Omega.{arith}
+use mathlib.Core.List.{List}
+use mathlib.Core.Logic.{_⊎_, inl, inr, _↔_, _≢_}
+use mathlib.Core.Path.{_≡_, refl, sym, ap, _∙_}
+use Rattle.rules.proofs.Ends.{opened, run-done, run-open, run-ind}
+use Rattle.rules.proofs.Invariant.{Open, Invariant}
+use Rattle.rules.specs.Rules.{conclusion, State, Result, unfinished}
+use Rattle.rules.specs.Runs.{stop, after, andThen, choose, run, Choice, Outcome}
+use Rattle.rules.specs.Table.{Table}
+use Rattle.sets.specs.Sets.{Set}
+
+stop-then : (r : Result) (hs : List Set) (s : State) (p : Outcome) → andThen (stop r hs s) p ≡ p
+unfolding andThen stop
+stop-then r hs s p = simp zero-add
+
+after-then : (c : Choice) (o p : Outcome) → andThen (after c o) p ≡ after c (andThen o p)
+unfolding andThen after
+after-then c o p = simp add-assoc
+
+module _ (t : Table) (big : t .size ≤ 256) where
+  -- the result is the conclusion of the state that the run leaves
+  pub run-result : (b : ℕ) (hs : List Set) (s : State) → Invariant t s → (run t b hs s) .result ≡ conclusion t ((run t b hs s) .state)
+  unfolding stop after
+  run-result = run-ind t big (λ b hs s o. o .result ≡ conclusion t (o .state)) (λ b hs s v d. refl) (λ b hs s o v p q. q)
+
+  pub run-keeps : (b : ℕ) (hs : List Set) (s : State) → Invariant t s → Invariant t ((run t b hs s) .state)
+  unfolding stop after
+  run-keeps = run-ind t big (λ b hs s o. Invariant t (o .state)) (λ b hs s v d. v) (λ b hs s o v p q. q)
+
+  -- a run fires at most its budget, and all of it where it does not end
+  pub run-most : (b : ℕ) (hs : List Set) (s : State) → Invariant t s → (run t b hs s) .rules ≤ b
+  unfolding stop after
+  run-most = run-ind t big (λ b hs s o. o .rules ≤ b) (λ b hs s v d. omega arith) (λ b hs s o v p q. omega arith)
+
+  pub run-spent : (b : ℕ) (hs : List Set) (s : State) → Invariant t s → (run t b hs s) .result ≡ unfinished → (run t b hs s) .rules ≡ b
+  unfolding stop after
+  run-spent = run-ind t big (λ b hs s o. o .result ≡ unfinished → o .rules ≡ b)
+      (λ b hs s v d e. elim d [ inl z ↦ omega arith | inr h ↦ absurd (h e) ]) (λ b hs s o v p q e. omega (arith, q e))
+
+  pub budget : (b : ℕ) (hs : List Set) (s : State) → Invariant t s → (c : ℕ)
+      → run t (b + c) hs s ≡ andThen (run t b hs s) (run t c ((run t b hs s) .left) ((run t b hs s) .state))
+  unfolding stop after
+  budget = run-ind t big (λ b hs s o. (c : ℕ) → run t (b + c) hs s ≡ andThen o (run t c (o .left) (o .state)))
+      (λ b hs s v d c. stops b hs s d c ∙ sym (stop-then (conclusion t s) hs s (run t c hs s)))
+      (λ b hs s o v p q c. rw (suc-add, run-open t big (b + c) hs s v p) (ap (after (choose t hs s)) (q c) ∙ sym (after-then (choose t hs s) o (run t c _ _))))
+    where
+      stops : (b : ℕ) (hs : List Set) (s : State) → (b ≡ 0) ⊎ (conclusion t s ≢ unfinished) → (c : ℕ) → run t (b + c) hs s ≡ run t c hs s
+      stops b hs s (inl z) c = rw (z, zero-add)
+      stops b hs s (inr h) c = run-done t (b + c) hs s h ∙ sym (run-done t c hs s h)
+
+  -- an open run of at least one rule fires one
+  run-fires : (b : ℕ) (hs : List Set) (s : State) → Invariant t s → Open t s → 0 < (run t (suc b) hs s) .rules
+  unfolding after
+  run-fires b hs s v o = rw (run-open t big b hs s v o) (omega arith)
+
+  -- unfinished exactly where the rules need more than the budget
+  pub needs-more : (b c : ℕ) (hs : List Set) (s : State) → Invariant t s → (run t (b + c) hs s) .result ≢ unfinished
+      → ((run t b hs s) .result ≡ unfinished) ↔ (b < (run t (b + c) hs s) .rules)
+  unfolding andThen stop
+  needs-more b c hs s v h = (more, less)
+    where
+      more : (run t b hs s) .result ≡ unfinished → b < (run t (b + c) hs s) .rules
+      more e = go c refl
+        where
+          go : (d : ℕ) → c ≡ d → b < (run t (b + c) hs s) .rules
+          go zero q = absurd (h (rw (q, add-zero) e))
+          go (suc d) q =
+              rw (q, budget b hs s v (suc d))
+              (omega (arith, run-spent b hs s v e, run-fires d ((run t b hs s) .left) ((run t b hs s) .state) (run-keeps b hs s v) (sym (run-result b hs s v) ∙ e)))
+
+      less : b < (run t (b + c) hs s) .rules → (run t b hs s) .result ≡ unfinished
+      less l =
+          elim (opened t ((run t b hs s) .state)) [
+            | inl o ↦ run-result b hs s v ∙ o
+            | inr d ↦ absurd (omega (arith, run-most b hs s v, rw (budget b hs s v c, run-done t c ((run t b hs s) .left) ((run t b hs s) .state) d) at l))
+          ]

@@ -1,0 +1,13 @@
+pub mod Adjoint
+pub mod Invariant
+pub mod Keep
+pub mod Ends
+pub mod Budget
+pub mod Meaning
+pub mod Entry
+pub mod Normal
+pub mod Buffer
+pub mod Held
+pub mod Published
+pub mod Demands
+pub mod Tried

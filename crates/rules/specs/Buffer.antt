@@ -1,0 +1,93 @@
+-- The run buffer: 2,066 words that hold a state, and the entry check as a test on those words.
+use Prim.Native.Nat.{ℕ, zero, suc, _+_, _-_, _*_, _≤_, _<_, _/_, _%_}
+use mathlib.Core.Bool.{Bool, true, not, _&&_, cond, _||_}
+use mathlib.Core.List.{List, [], _∷_, _++_}
+use mathlib.Core.Path.{_≡_}
+use lib.Dec.{ltb, leb}
+use lib.ListN.{getD}
+use Rattle.rules.specs.Rules.{state, State, safe}
+use Rattle.rules.specs.Table.{f, g, Table}
+use Rattle.sets.specs.Search.{all}
+use Rattle.sets.specs.Sets.{Set, empty, within, sound, quad, Proper}
+
+-- the first m values of a function
+unfoldable pub listed : ℕ → (ℕ → ℕ) → List ℕ
+listed zero h = []
+listed (suc m) h = h 0 ∷ listed m (λ i. h (suc i))
+
+-- 258 sets, four words each
+unfoldable pub flat : (ℕ → Set) → List ℕ
+flat x = listed 1032 (λ i. getD (x (i / 4)) (i % 4) 0)
+
+-- word 0 is n, word 1 is k, x_j starts at word 2 + 4·j, y_j at word 1,034 + 4·j
+unfoldable pub encode : State → List ℕ
+encode s = s .n ∷ s .k ∷ (flat (s .x) ++ flat (s .y))
+
+-- the state that words hold
+unfoldable pub decode : List ℕ → State
+decode b =
+    state (getD b 0 0) (getD b 1 0)
+    (λ j. cond (ltb j (getD b 0 0)) (quad b (2 + 4 * j)) empty)
+    (λ j. cond (leb (getD b 1 0) j && ltb j (getD b 0 0)) (quad b (1034 + 4 * j)) empty)
+
+-- every test of a list passes
+unfoldable pub each : List Bool → Bool
+each [] = true
+each (b ∷ bs) = b && each bs
+
+-- a condition on y_j, where it is held
+unfoldable pub held : ℕ → ℕ → Bool → Bool
+held k j b = not (leb k j) || b
+
+module _ (N : ℕ) (b : List ℕ) where
+  -- every word not in use is 0; no set has members from N up
+  unfoldable pub keptX : ℕ → Bool
+  keptX j = sound (cond (ltb j (getD b 0 0)) N 0) (quad b (2 + 4 * j))
+
+  unfoldable pub keptY : ℕ → Bool
+  keptY j = sound (cond (leb (getD b 1 0) j && ltb j (getD b 0 0)) N 0) (quad b (1034 + 4 * j))
+
+module _ (t : Table) (s : State) where
+  -- n is 2 to N+2 and k is 1 to n
+  unfoldable pub ranges : Bool
+  ranges = each (leb 2 (s .n) ∷ leb (s .n) (t .size + 2) ∷ leb 1 (s .k) ∷ leb (s .k) (s .n) ∷ [])
+
+  -- x_j, I and f(x_j) are within x_(j+1)
+  unfoldable pub rises : ℕ → Bool
+  rises j =
+      each (within (t .size) (s .x j) (s .x (suc j))
+      ∷ within (t .size) (t .starts) (s .x (suc j))
+      ∷ within (t .size) (f t (s .x j)) (s .x (suc j))
+      ∷ [])
+
+  -- g(y_(j+1)) is within y_j for held neighbours
+  unfoldable pub falls : ℕ → Bool
+  falls j = held (s .k) j (within (t .size) (g t (s .y (suc j))) (s .y j))
+
+  -- x_j is not within its held y_j
+  unfoldable pub parts : ℕ → Bool
+  parts j = held (s .k) j (not (within (t .size) (s .x j) (s .y j)))
+
+  -- x_0 is empty; the chain rises; x_(n-2) is within P; y_(n-1), if held, contains P; y falls; no x_j is within its y_j
+  abbrev pub conditions : List Bool
+  conditions =
+      ranges
+      ∷ within (t .size) (s .x 0) empty
+      ∷ all (s .n - 1) rises
+      ∷ within (t .size) (s .x (s .n - 2)) (t .safe)
+      ∷ held (s .k) (s .n - 1) (within (t .size) (t .safe) (s .y (s .n - 1)))
+      ∷ all (s .n - 1) falls
+      ∷ all (s .n) parts
+      ∷ []
+
+-- the entry check of a buffer of 2,066 words
+unfoldable pub entryCheck : Table → List ℕ → Bool
+entryCheck t b = each (all 258 (keptX (t .size) b) ∷ all 258 (keptY (t .size) b) ∷ conditions t (decode b))
+
+-- the sets of a state hold no members from N up, and are empty where none is held
+pub record Normal (t : Table) (s : State) : Type 0 where
+  pub proper-x : (j : ℕ) → Proper (t .size) (s .x j)
+  pub proper-y : (j : ℕ) → Proper (t .size) (s .y j)
+  pub x-end : (j : ℕ) → s .n ≤ j → s .x j ≡ empty
+  pub y-end : (j : ℕ) → s .n ≤ j → s .y j ≡ empty
+  pub y-low : (j : ℕ) → j < s .k → s .y j ≡ empty

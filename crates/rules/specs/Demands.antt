@@ -1,0 +1,100 @@
+-- The demands of the letter on a run, in its order; proofs/Demands.antt proves each.
+use Prim.Native.Nat.{ℕ, _+_, _*_, _≤_, _<_}
+use mathlib.Core.Bool.{true}
+use mathlib.Core.List.{List}
+use mathlib.Core.Logic.{_↔_, _≢_}
+use mathlib.Core.Path.{_≡_}
+use lib.ListN.{length}
+use Rattle.rules.specs.Buffer.{encode, each, conditions, entryCheck, Normal}
+use Rattle.rules.specs.Published.{Step, Steps}
+use Rattle.rules.specs.Rules.{fresh, conclusion, due, allowed, house, fire, State, Result, Rule, safe, reached, unfinished}
+use Rattle.rules.specs.Runs.{andThen, run, walk, Outcome}
+use Rattle.rules.specs.Table.{f, g, Table}
+use Rattle.rules.specs.Walks.{Walked, Bad, BadReached, RealWalk, Closed}
+use Rattle.sets.specs.Sets.{Set, within, Proper}
+
+-- a run that ended: it says safe, or it says reached
+pub data Ended : Result → Type 0 where
+  ended-safe : (j : ℕ) → Ended (safe j)
+  ended-reached : Ended reached
+
+-- the same verdict
+pub data Same : Result → Result → Type 0 where
+  same-safe : (i j : ℕ) → Same (safe i) (safe j)
+  same-reached : Same reached reached
+
+-- 2·N·N + 2·N
+abbrev pub bound : ℕ → ℕ
+bound N = 2 * (N * N) + 2 * N
+
+module _ (t : Table) where
+  -- the conditions of the entry check hold
+  abbrev pub Passes : State → Type 0
+  Passes s = each (conditions t s) ≡ true
+
+  -- f(X) is within Y exactly when X is within g(Y); both are monotone
+  pub record Adjoint : Type 0 where
+    pub exactly : (X Y : Set) → within (t .size) (f t X) Y ≡ within (t .size) X (g t Y)
+    pub f-grows : (X Y : Set) → within (t .size) X Y ≡ true → within (t .size) (f t X) (f t Y) ≡ true
+    pub g-grows : (X Y : Set) → within (t .size) X Y ≡ true → within (t .size) (g t X) (g t Y) ≡ true
+
+  -- a fresh run passes the entry check; every rule keeps it, under every choice allowed; the house choice is one
+  pub record Kept : Type 0 where
+    pub fresh-passes : Passes (fresh t)
+    pub rules-keep : (s : State) (z : Set) → Passes s → conclusion t s ≡ unfinished → allowed t (due t s) s z ≡ true → Passes (fire t (due t s) s z)
+    pub house-allowed : (s : State) → Passes s → conclusion t s ≡ unfinished → allowed t (due t s) s (house t (due t s) s) ≡ true
+    -- a run that has not concluded has a place for another set
+    pub room : (s : State) → Passes s → conclusion t s ≡ unfinished → s .n ≤ t .size + 1
+
+  -- a choice allowed makes a step of the published rules; every step of theirs is the rule due, with a choice allowed
+  pub record Published : Type 0 where
+    pub is-step : (s : State) (z : Set) → Passes s → conclusion t s ≡ unfinished → allowed t (due t s) s z ≡ true
+        → Step t s (due t s) z (fire t (due t s) s z)
+    pub step-is : (s : State) (rule : Rule) (z : Set) (s′ : State) → Passes s → Step t s rule z s′
+        → (conclusion t s ≡ unfinished) × (rule ≡ due t s) × (allowed t rule s z ≡ true) × (s′ ≡ fire t rule s z)
+
+  module _ (s : State) (b : ℕ) (hints : List Set) where
+    abbrev pub after-run : Outcome
+    after-run = run t b hints s
+
+    -- demand 2
+    pub record Demand2 : Type 0 where
+      -- the rules fired are those published, and as many as reported
+      pub rules-published : Steps t (after-run .rules) s (after-run .state)
+      -- safe: the reason holds every start, no bad state, and every move out of its own members
+      pub safe-reason : (j : ℕ) → after-run .result ≡ safe j → Closed t (after-run .state .x j)
+      -- reached: it shows a real walk
+      pub reached-walk : after-run .result ≡ reached → RealWalk t (walk t (after-run .state))
+      -- a run that ends says safe exactly when no bad state can be reached
+      pub exactly : Ended (after-run .result) → ((j : ℕ) × (after-run .result ≡ safe j)) ↔ (BadReached t → ⊥)
+
+    -- demand 3
+    pub record Demand3 : Type 0 where
+      -- it ends if the budget allows 2·N·N + 2·N rules, and never fires more
+      pub ends : bound (t .size) ≤ b → Ended (after-run .result)
+      pub in-bound : after-run .rules ≤ bound (t .size)
+      -- the verdict of a run that ends is the same for all hints, budgets and runs that pass the entry check
+      pub same : (s′ : State) (b′ : ℕ) (hints′ : List Set) → Passes s′ → Ended (after-run .result) → Ended ((run t b′ hints′ s′) .result)
+          → Same (after-run .result) ((run t b′ hints′ s′) .result)
+      -- a walk shown has the fewest states of any walk from a start to a bad state
+      pub fewest : after-run .result ≡ reached → (m u : ℕ) → Walked t m u → Bad t u → length (walk t (after-run .state)) ≤ m
+
+    -- hints and budget
+    pub record Budget : Type 0 where
+      -- b, then c with the hints that remain, ends as b + c does, the numbers added
+      pub split : (c : ℕ) → run t (b + c) hints s ≡ andThen after-run (run t c (after-run .left) (after-run .state))
+      -- unfinished exactly when the rules under these hints need more than the budget
+      pub unfinished-exactly : (c : ℕ) → Ended ((run t (b + c) hints s) .result) → (after-run .result ≡ unfinished) ↔ (b < (run t (b + c) hints s) .rules)
+      -- a budget of 0 on a concluded run gives the verdict
+      pub concluded-at-once : conclusion t s ≢ unfinished → (run t 0 hints s) .result ≡ conclusion t s
+
+  -- a buffer of 2,066 words passes the entry check exactly when it holds a state that meets the conditions, and then one
+  pub record Encoding (b : List ℕ) : Type 0 where
+    pub holds : entryCheck t b ≡ true → (s : State) × (encode s ≡ b) × Normal t s × Passes s
+    pub passes : (s : State) → encode s ≡ b → Normal t s → Passes s → entryCheck t b ≡ true
+    pub one : (s s′ : State) → encode s ≡ b → encode s′ ≡ b → Normal t s → Normal t s′ → Passes s → Passes s′ → s ≡ s′
+
+  -- after every rule words not in use are 0: the next state's words pass again
+  pub record Rewritten : Type 0 where
+    pub again : (s : State) (z : Set) → Passes s → Normal t s → conclusion t s ≡ unfinished → Proper (t .size) z → allowed t (due t s) s z ≡ true
+        → entryCheck t (encode (fire t (due t s) s z)) ≡ true

@@ -1,0 +1,9 @@
+pub mod Table
+pub mod Walks
+pub mod Rules
+pub mod Published
+pub mod Runs
+pub mod Single
+pub mod Buffer
+pub mod Demands
+pub mod Tried

@@ -1,0 +1,89 @@
+-- The rules of the search (document 001): the state of a run, its conclusion, the rule due, what it allows, what it does.
+use Prim.Native.Nat.{ℕ, suc, _+_, _-_}
+use mathlib.Core.Bool.{Bool, true, false, not, _&&_, cond}
+use mathlib.Core.Option.{Option, none, some}
+use lib.Dec.{eqb, leb}
+use Rattle.sets.specs.Search.{least}
+use Rattle.sets.specs.Sets.{Set, within, meet, full, empty}
+use Rattle.rules.specs.Table.{Table, f, g}
+
+-- x_0 .. x_(n-1) and y_k .. y_(n-1); y is empty when k = n. Where no set is held, x and y are the empty set
+pub record State : Type 0 where
+  pub n : ℕ
+  pub k : ℕ
+  pub x : ℕ → Set
+  pub y : ℕ → Set
+
+abbrev pub state : ℕ → ℕ → (ℕ → Set) → (ℕ → Set) → State
+state n k x y = record { n = n; k = k; x = x; y = y }
+
+-- z in place i, the others as they are
+unfoldable pub put : (ℕ → Set) → ℕ → Set → ℕ → Set
+put x i z j = cond (eqb j i) z (x j)
+
+-- every x_j with j up to k becomes x_j ∩ z
+unfoldable pub cut : ℕ → (ℕ → Set) → ℕ → Set → ℕ → Set
+cut N x k z j = cond (leb j k) (meet N (x j) z) (x j)
+
+-- how a run stands; no room: Unfold is due and there is no place for another set
+pub data Result : Type 0 where
+  safe : ℕ → Result
+  reached : Result
+  unfinished : Result
+  noRoom : Result
+
+pub data Rule : Type 0 where
+  Unfold : Rule
+  Candidate : Rule
+  Decide : Rule
+  Conflict : Rule
+
+-- safe at the j found; else reached, if so
+unfoldable pub concludes : Option ℕ → Bool → Result
+concludes (some j) b = safe j
+concludes none true = reached
+concludes none false = unfinished
+
+module _ (t : Table) where
+  -- n = k = 2, x_0 empty, x_1 full, no y
+  unfoldable pub fresh : State
+  fresh = state 2 2 (put (λ j. empty) 1 (full (t .size))) (λ j. empty)
+
+  -- x_(j+1) is within x_j
+  unfoldable pub closes : State → ℕ → Bool
+  closes s j = within (t .size) (s .x (suc j)) (s .x j)
+
+  -- the smallest j from 0 to n-2 that closes; k = 1 and I not within y_1
+  unfoldable pub conclusion : State → Result
+  conclusion s = concludes (least (s .n - 1) (closes s)) (eqb (s .k) 1 && not (within (t .size) (t .starts) (s .y 1)))
+
+  -- y empty: x_(n-1) within P or not; y not empty: f(x_(k-1)) within y_k or not
+  unfoldable pub due : State → Rule
+  due s =
+      elim (eqb (s .k) (s .n)) [
+        | true ↦ elim (within (t .size) (s .x (s .n - 1)) (t .safe)) [ true ↦ Unfold | false ↦ Candidate ]
+        | false ↦ elim (within (t .size) (f t (s .x (s .k - 1))) (s .y (s .k))) [ true ↦ Conflict | false ↦ Decide ]
+      ]
+
+  -- what the rule asks of the set z that is chosen
+  unfoldable pub allowed : Rule → State → Set → Bool
+  allowed Unfold s z = true
+  allowed Candidate s z = within (t .size) (t .safe) z && not (within (t .size) (s .x (s .n - 1)) z)
+  allowed Decide s z = within (t .size) (g t (s .y (s .k))) z && not (within (t .size) (s .x (s .k - 1)) z)
+  allowed Conflict s z =
+      within (t .size) z (s .y (s .k)) && within (t .size) (t .starts) z
+      && within (t .size) (f t (meet (t .size) (s .x (s .k - 1)) z)) z
+
+  -- the house choice: P, g(y_k) and y_k
+  unfoldable pub house : Rule → State → Set
+  house Unfold s = empty
+  house Candidate s = t .safe
+  house Decide s = g t (s .y (s .k))
+  house Conflict s = s .y (s .k)
+
+  -- the rule fired with z
+  unfoldable pub fire : Rule → State → Set → State
+  fire Unfold s z = state (s .n + 1) (s .n + 1) (put (s .x) (s .n) (full (t .size))) (s .y)
+  fire Candidate s z = state (s .n) (s .n - 1) (s .x) (put (s .y) (s .n - 1) z)
+  fire Decide s z = state (s .n) (s .k - 1) (s .x) (put (s .y) (s .k - 1) z)
+  fire Conflict s z = state (s .n) (s .k + 1) (cut (t .size) (s .x) (s .k) z) (put (s .y) (s .k) empty)

@@ -1,0 +1,125 @@
+-- Hints and budget: what a rule takes of the hints, and a run of at most so many rules. The walk of a reached run.
+use Prim.Native.Nat.{ℕ, zero, suc, _+_, _-_}
+use mathlib.Core.Bool.{Bool, true, false, not, _&&_}
+use mathlib.Core.List.{List, [], _∷_}
+use mathlib.Core.Option.{Option, none, some}
+use denote.Struct.Rest.{rest}
+use lib.Dec.{eqb}
+use Rattle.rules.specs.Rules.{noRoom, conclusion, due, allowed, house, fire, State, Result, Rule, safe, reached, unfinished, Unfold, Candidate, Decide, Conflict}
+use Rattle.rules.specs.Table.{leads, Table}
+use Rattle.sets.specs.Search.{least}
+use Rattle.sets.specs.Sets.{Set, member, sound}
+
+-- Candidate, Decide and Conflict take a hint
+unfoldable pub asks : Rule → Bool
+asks Unfold = false
+asks Candidate = true
+asks Decide = true
+asks Conflict = true
+
+-- the set chosen, the hints left, and how many were taken and used
+pub record Choice : Type 0 where
+  pub set : Set
+  pub left : List Set
+  pub taken : ℕ
+  pub used : ℕ
+
+-- a hint that will do is used; any other is passed over
+unfoldable pub offered : Bool → Set → Set → List Set → Choice
+offered true hint house rest = record { set = hint; left = rest; taken = 1; used = 1 }
+offered false hint house rest = record { set = house; left = rest; taken = 1; used = 0 }
+
+-- the next hint, if the rule asks and any is left; else the house choice
+unfoldable pub pick : Bool → List Set → (Set → Bool) → Set → Choice
+pick false hints will house = record { set = house; left = hints; taken = 0; used = 0 }
+pick true [] will house = record { set = house; left = []; taken = 0; used = 0 }
+pick true (hint ∷ rest) will house = offered (will hint) hint house rest
+
+-- what a run answers: how it stands, the rules fired, the hints taken, used and left, and the state that it leaves
+pub record Outcome : Type 0 where
+  pub result : Result
+  pub rules : ℕ
+  pub taken : ℕ
+  pub used : ℕ
+  pub left : List Set
+  pub state : State
+
+-- nothing fired
+unfoldable pub stop : Result → List Set → State → Outcome
+stop r hints s = record { result = r; rules = 0; taken = 0; used = 0; left = hints; state = s }
+
+-- one rule, and then what followed
+unfoldable pub after : Choice → Outcome → Outcome
+after c o =
+    record {
+      result = o .result;
+      rules = 1 + o .rules;
+      taken = c .taken + o .taken;
+      used = c .used + o .used;
+      left = o .left;
+      state = o .state;
+    }
+
+-- one outcome after another, the numbers added
+unfoldable pub andThen : Outcome → Outcome → Outcome
+andThen o p =
+    record {
+      result = p .result;
+      rules = o .rules + p .rules;
+      taken = o .taken + p .taken;
+      used = o .used + p .used;
+      left = p .left;
+      state = p .state;
+    }
+
+-- what was found, or 0
+unfoldable pub orZero : Option ℕ → ℕ
+orZero (some s) = s
+orZero none = 0
+
+module _ (t : Table) where
+  -- no members from N up, and the rule due allows it
+  unfoldable pub willDo : State → Set → Bool
+  willDo s z = sound (t .size) z && allowed t (due t s) s z
+
+  unfoldable pub choose : List Set → State → Choice
+  choose hints s = pick (asks (due t s)) hints (willDo s) (house t (due t s) s)
+
+  -- the rule due, fired with the set chosen
+  unfoldable pub next : Choice → State → State
+  next c s = fire t (due t s) s (c .set)
+
+  -- Unfold is due and n is 258
+  unfoldable pub lacksRoom : State → Bool
+  lacksRoom s = not (asks (due t s)) && eqb (s .n) 258
+
+  -- at most b rules; the conclusion is tested before the budget
+  unfoldable pub run : ℕ → List Set → State → Outcome
+  run zero hints s = stop (conclusion t s) hints s
+  run (suc b) hints s =
+      elim (conclusion t s) [
+        | safe j ↦ stop (safe j) hints s
+        | reached ↦ stop reached hints s
+        | noRoom ↦ stop noRoom hints s
+        | unfinished ↦ elim (lacksRoom s) [
+          | true ↦ stop noRoom hints s
+          | false ↦ after (choose hints s) (run b ((choose hints s) .left) (next (choose hints s) s))
+        ]
+      ]
+
+  -- the smallest start outside y
+  unfoldable pub firstState : Set → ℕ
+  firstState y = orZero (least (t .size) (λ u. member (t .starts) u && not (member y u)))
+
+  -- the smallest next state by a move that lies outside y
+  unfoldable pub nextState : ℕ → Set → ℕ
+  nextState s y = orZero (least (t .size) (λ u. leads (t .rows) s u && not (member y u)))
+
+  -- m states from s on, whose place in the walk is j
+  unfoldable pub walkFrom : ℕ → ℕ → ℕ → (ℕ → Set) → List ℕ
+  walkFrom zero s j y = []
+  walkFrom (suc m) s j y = s ∷ walkFrom m (nextState s (y (suc j))) (suc j) y
+
+  -- n-1 states: the smallest start outside y_1, then each time the smallest next state outside the next y
+  unfoldable pub walk : State → List ℕ
+  walk s = walkFrom (s .n - 1) (firstState (s .y 1)) 1 (s .y)
