@@ -1,13 +1,13 @@
 -- N from 1 to 256: the test, and what `full` answers.
 use Prim.Native.Nat.{ℕ, _≤_, _<_}
 use native.Mathlib.Omega.{arith}
-use mathlib.Core.Path.{_≡_, _∙_}
+use mathlib.Core.Bool.{Bool, true, false, _&&_, cond}
 use mathlib.Core.Logic.{_⊎_, inl, inr}
-use mathlib.Core.Bool.{Bool, true, false, _&&_}
-use Rattle.sets.specs.Sets.{full, empty, inRange, sizeRefusal}
+use mathlib.Core.Path.{_≡_, refl, sym, _∙_}
+use Rattle.sets.proofs.Tests.{passes, fails, leb-says, Says, pass, fail}
 use Rattle.sets.specs.Said.{IsFull}
+use Rattle.sets.specs.Sets.{pack, wordOf, setOf, empty, full, inRange, sizeRefusal}
 use Rattle.sets.specs.declared.Full.{Full}
-use Rattle.sets.proofs.Tests.{Says, pass, fail, passes, fails, leb-says}
 
 pub range-says : (N : ℕ) → Says ((1 ≤ N) × (N ≤ 256)) ((N ≡ 0) ⊎ (256 < N)) (inRange N)
 unfolding inRange
@@ -32,6 +32,15 @@ pub full-refused : (N : ℕ) (r : Full) → r .refusal ≡ 2 → r .set .words �
 unfolding sizeRefusal
 full-refused N r e f w = record { refusal = rw (out-of-range N w) e; set = rw (out-of-range N w) f }
 
--- where N is in range, the full set
-pub full-set : (N : ℕ) (r : Full) → IsFull N r → 1 ≤ N → N ≤ 256 → r .set .words ≡ full N
-full-set N r i h k = i .set ∙ rw (in-range N h k)
+full-none : full 0 ≡ empty
+unfolding full setOf wordOf pack empty
+full-none = refl
+
+-- up to 256 the set answered is the full set, empty for 0
+pub full-set : (N : ℕ) (r : Full) → IsFull N r → N ≤ 256 → r .set .words ≡ full N
+full-set N r i k = i .set ∙ go (range-says N)
+  where
+    go : {b : Bool} → Says ((1 ≤ N) × (N ≤ 256)) ((N ≡ 0) ⊎ (256 < N)) b → cond b (full N) empty ≡ full N
+    go (pass h) = refl
+    go (fail (inl e)) = rw e (sym full-none)
+    go (fail (inr l)) = absurd (omega arith)

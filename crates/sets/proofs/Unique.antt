@@ -5,7 +5,7 @@ use mathlib.Core.Bool.{Bool}
 use mathlib.Core.List.{List}
 use lib.Seq.{sets}
 use Rattle.answers.proofs.Unique.{only}
-use Rattle.sets.specs.Sets.{Set, member, within, meet, join, minus, with, count, smallest, quad}
+use Rattle.sets.specs.Sets.{Set, member, within, sound, meet, join, minus, with, count, smallest, quad}
 use Rattle.sets.specs.Said.{said, IsFull}
 use Rattle.sets.specs.declared.StateSet.{StateSet}
 use Rattle.sets.specs.declared.Full.{Full}
@@ -37,6 +37,9 @@ member-once x s = only
 
 pub within-once : (x y : Set) {a b : Bool} → a ≡ within 256 x y → b ≡ within 256 x y → a ≡ b
 within-once x y = only
+
+pub sound-once : (x : Set) (n : ℕ) {a b : Bool} → a ≡ sound n x → b ≡ sound n x → a ≡ b
+sound-once x n = only
 
 pub meet-once : (x y : Set) {a b : StateSet} → a .words ≡ meet 256 x y → b .words ≡ meet 256 x y → a ≡ b
 meet-once x y = only-set

@@ -1,15 +1,15 @@
 -- Within, by members: both ways, and its failure as a witness.
 use Prim.Native.Nat.{ℕ, suc, _≤_, _<_}
 use native.Mathlib.Omega.{arith}
-use mathlib.Core.Path.{_≡_, sym, ap, _∙_}
+use mathlib.Core.Bool.{Bool, true, false, _&&_, _||_, not}
 use mathlib.Core.Logic.{inl, inr}
-use mathlib.Core.Bool.{Bool, true, false, not, _&&_, _||_}
+use mathlib.Core.Path.{_≡_, sym, ap, _∙_}
 use lib.Dec.{ltb}
-use Rattle.sets.specs.Search.{all}
-use Rattle.sets.specs.Sets.{Set, Proper, member, within, empty, full, sound, meet}
-use Rattle.sets.proofs.Members.{proper-past, member-empty, member-full, member-meet, set-pad}
+use Rattle.sets.proofs.Members.{set-pad, member-empty, proper-past, member-full, member-meet}
 use Rattle.sets.proofs.Search.{all-says}
-use Rattle.sets.proofs.Tests.{Says, pass, fail, passed, failed, passes, fails, clash, and-true, and-intro, implied, not-implied, leb-says, lt-or-ge}
+use Rattle.sets.proofs.Tests.{passed, failed, passes, fails, clash, and-true, and-intro, implied, not-implied, leb-says, lt-or-ge, Says, pass, fail}
+use Rattle.sets.specs.Search.{all}
+use Rattle.sets.specs.Sets.{Set, member, empty, full, within, sound, meet, Proper}
 
 -- every member of x below N is a member of y
 pub record Within (N : ℕ) (x y : Set) : Type 0 where
@@ -89,9 +89,8 @@ module _ (N : ℕ) (big : N ≤ 256) where
   unfolding within sound
   sound-full x = simp (member-full N big)
 
-pub sound-none : (x : Set) → within 256 x empty ≡ sound 0 x
-unfolding within sound
-sound-none x = simp (member-empty, none)
-  where
-    none : (s : ℕ) → ltb s 0 ≡ false
-    none s = fails (leb-says (suc s) 0) (λ h. omega arith)
+-- from 256 up no number is a member
+pub sound-wide : (N : ℕ) (x : Set) → 256 ≤ N → sound N x ≡ true
+unfolding sound
+sound-wide N x h = passes (all-says 256 (λ s. not (member x s) || ltb s N))
+    (λ w. clash (passes (leb-says (suc (w .0)) N) (λ l. omega (arith, w .1))) (not-implied (member x (w .0)) (ltb (w .0) N) (w .2) .1))

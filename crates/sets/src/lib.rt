@@ -4,7 +4,7 @@
 // specs/Sets.antt; `256` there is the number of states that four words can hold.
 ghost use mathlib.Core.Path.{_≡_};
 ghost use lib.Seq.{sets};
-ghost use Rattle.sets.specs.Sets.{member, within, meet, join, minus, with, count, smallest, quad};
+ghost use Rattle.sets.specs.Sets.{member, within, sound, meet, join, minus, with, count, smallest, quad};
 ghost use Rattle.sets.specs.Said.{said, IsFull};
 
 mod word;
@@ -116,6 +116,18 @@ impl StateSet {
             return false;
         }
         self.words[3] & o.words[3] == self.words[3]
+    }
+
+    // Whether no member is from n up.
+    pub fn sound(self, n: u16) -> bool
+        ensures { λ r. ⌜ r ≡ sound n (self .words) ⌝ }
+    {
+        if 256 <= n {
+            return true;
+        }
+        let r = StateSet::full(n);
+        let all = r.set;
+        self.within(all)
     }
 
     // The members of both.

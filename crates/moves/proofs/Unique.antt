@@ -1,0 +1,34 @@
+-- Any two outcomes that a public call's promise allows are equal: a line for each call.
+use Prim.Native.Nat.{ℕ}
+use mathlib.Core.Bool.{Bool}
+use mathlib.Core.List.{List}
+use mathlib.Core.Path.{_≡_}
+use Rattle.answers.proofs.Unique.{only}
+use Rattle.moves.specs.Said.{Answers}
+use Rattle.moves.specs.Wide.{forward256, backward256}
+use Rattle.moves.specs.declared.Moved.{Moved}
+use Rattle.rules.proofs.Tried.{rows}
+use Rattle.rules.specs.Table.{soundRows, forward, backward}
+use Rattle.sets.specs.Sets.{Set}
+use Rattle.sets.specs.declared.StateSet.{StateSet}
+
+only-set : {w : Set} {x y : StateSet} → x .words ≡ w → y .words ≡ w → x ≡ y
+only-set p q = λ i. record { words = only p q i }
+
+answers-once : {N : ℕ} {rows : List ℕ} {x result : Set} {a b : Moved} → Answers N rows x result a → Answers N rows x result b → a ≡ b
+answers-once p q = λ i. record { refusal = only (p .refusal) (q .refusal) i; set = only-set (p .set) (q .set) i }
+
+pub sound-rows-once : (N : ℕ) (rows : List ℕ) {a b : Bool} → a ≡ soundRows N rows → b ≡ soundRows N rows → a ≡ b
+sound-rows-once N rows = only
+
+pub forward-once : (N : ℕ) (rows : List ℕ) (x : Set) {a b : StateSet} → a .words ≡ forward256 N rows x → b .words ≡ forward256 N rows x → a ≡ b
+forward-once N rows x = only-set
+
+pub backward-once : (N : ℕ) (rows : List ℕ) (x : Set) {a b : StateSet} → a .words ≡ backward256 N rows x → b .words ≡ backward256 N rows x → a ≡ b
+backward-once N rows x = only-set
+
+pub f-once : (N : ℕ) (rows : List ℕ) (x : Set) {a b : Moved} → Answers N rows x (forward N rows x) a → Answers N rows x (forward N rows x) b → a ≡ b
+f-once N rows x = answers-once
+
+pub g-once : (N : ℕ) (rows : List ℕ) (x : Set) {a b : Moved} → Answers N rows x (backward N rows x) a → Answers N rows x (backward N rows x) b → a ≡ b
+g-once N rows x = answers-once
