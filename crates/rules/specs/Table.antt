@@ -13,6 +13,9 @@ pub record Table : Type 0 where
   pub safe : Set
   pub rows : List ℕ
 
+abbrev pub table : ℕ → Set → Set → List ℕ → Table
+table N I P rows = record { size = N; starts = I; safe = P; rows = rows }
+
 -- row s, four words, is the set of states one move from s
 abbrev pub row : List ℕ → ℕ → Set
 row rows s = quad rows (4 * s)

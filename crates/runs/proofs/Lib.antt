@@ -1,0 +1,11 @@
+pub mod Reading
+pub mod Rules
+pub mod Stores
+pub mod Steps
+pub mod Runs
+pub mod Walks
+pub mod Answers
+pub mod Cleared
+pub mod Demands
+pub mod Unique
+pub mod Split

@@ -1,0 +1,21 @@
+use borrow.Author.Needs.{needs}
+use Rattle.runs.proofs.Walks.{first-member, first-nothing}
+use Rattle.runs.proofs.walk.first_outside.Statement.{statement}
+use Rattle.runs.proofs.walk.first_outside.Tie as tie
+
+returns : tie.Need-returns
+returns c = first-member _ _ _ _ (c .before .before .before .before .minus .ensures) (c .before .before .before .smallest .ensures) (c .before .s .given .1)
+
+returns-2 : tie.Need-returns-2
+returns-2 c = first-nothing _ _ _ (c .before .before .before .minus .ensures) (c .before .before .smallest .ensures) (c .enum-told .given .1)
+
+pub first-outside-spec : {M : Type 1} → statement M
+first-outside-spec =
+    tie.close
+    (tie.spec
+    (λ c κs. search needs)
+    (λ c κs. search needs)
+    (λ c. search needs)
+    (λ c. search needs)
+    returns
+    returns-2)

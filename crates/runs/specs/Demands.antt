@@ -1,0 +1,71 @@
+-- Demands 2 and 3 of the letter, restated of what `run` promises: words in, words out.
+use Prim.Native.Nat.{ℕ, _+_, _^_, _≤_, _<_}
+use mathlib.Core.Bool.{true}
+use mathlib.Core.List.{List}
+use mathlib.Core.Logic.{_↔_, _⊎_}
+use mathlib.Core.Path.{_≡_}
+use lib.ListN.{length, getD, take}
+use Rattle.answers.specs.Answer.{given}
+use Rattle.sets.specs.Sets.{Proper, inRange}
+use Rattle.rules.specs.Table.{Table, soundTable}
+use Rattle.rules.specs.Walks.{Walked, Bad, BadReached, RealWalk, Closed}
+use Rattle.rules.specs.Published.{Steps}
+use Rattle.rules.specs.Buffer.{decode, entryCheck}
+use Rattle.rules.specs.Demands.{bound}
+use Rattle.runs.specs.declared.RunAnswer.{RunAnswer}
+use Rattle.runs.specs.Said.{safe-with, reached-with, said}
+use Rattle.runs.specs.Promises.{lengthsOk}
+
+-- a sound table, a run buffer that passes the entry check, hints good or bad, and buffers of the right lengths
+pub record Lent (t : Table) (hints b set walk : List ℕ) : Type 0 where
+  pub starts : Proper 256 (t .starts)
+  pub safe : Proper 256 (t .safe)
+  pub range : inRange (t .size) ≡ true
+  pub rows : length (t .rows) ≡ 1024
+  pub sound : soundTable t ≡ true
+  pub long : length b ≡ 2066
+  pub words : (i : ℕ) → getD b i 0 < 2 ^ 64
+  pub entry : entryCheck t b ≡ true
+  pub hint-words : (i : ℕ) → getD hints i 0 < 2 ^ 64
+  pub lengths : lengthsOk hints set walk ≡ true
+
+-- the run says safe; it says reached, with m states
+abbrev pub SaysSafe : RunAnswer → Type 0
+SaysSafe r = (j : ℕ) × (said (r .outcome) ≡ given (safe-with j))
+
+abbrev pub SaysReached : RunAnswer → ℕ → Type 0
+SaysReached r m = said (r .outcome) ≡ given (reached-with m)
+
+-- it ended: "unfinished" is no verdict
+abbrev pub Ends : RunAnswer → Type 0
+Ends r = SaysSafe r ⊎ ((m : ℕ) × SaysReached r m)
+
+pub record RunDemand2 (t : Table) (b b′ set′ walk′ : List ℕ) (r : RunAnswer) : Type 0 where
+  -- the rules fired are those published, as many as reported, and the buffer holds the state after the last
+  pub rules-published : Steps t (r .rules) (decode b) (decode b′)
+  -- safe: the set written holds every start, no bad state, and every move out of its own members
+  pub safe-reason : SaysSafe r → Closed t set′
+  -- reached: the states written are a real walk
+  pub reached-walk : (m : ℕ) → SaysReached r m → RealWalk t (take m walk′)
+  -- a run that ends says safe exactly when no bad state can be reached
+  pub exactly : Ends r → SaysSafe r ↔ (BadReached t → ⊥)
+
+pub record RunDemand3 (t : Table) (budget : ℕ) (r : RunAnswer) : Type 0 where
+  -- it ends if the budget allows 2·N·N + 2·N rules, and never fires more
+  pub ends : bound (t .size) ≤ budget → Ends r
+  pub in-bound : r .rules ≤ bound (t .size)
+  -- a walk shown has the fewest states of any walk from a start to a bad state
+  pub fewest : (m : ℕ) → SaysReached r m → (n u : ℕ) → Walked t n u → Bad t u → m ≤ n
+
+-- two runs on one table, with any hints and budgets, from any buffers that pass the entry check, never disagree
+pub record SameVerdict (r r′ : RunAnswer) : Type 0 where
+  pub both-safe : SaysSafe r → Ends r′ → SaysSafe r′
+  pub both-reached : (m : ℕ) → SaysReached r m → Ends r′ → SaysReached r′ m
+
+-- b1 rules, then b2 with the hints that remain, end as b1 + b2 do, the numbers added
+pub record SplitBudget (r r₁ r₂ : RunAnswer) (b b₂ : List ℕ) : Type 0 where
+  pub outcome : r .outcome ≡ r₂ .outcome
+  pub rules : r .rules ≡ r₁ .rules + r₂ .rules
+  pub taken : r .taken ≡ r₁ .taken + r₂ .taken
+  pub used : r .used ≡ r₁ .used + r₂ .used
+  pub buffer : b ≡ b₂

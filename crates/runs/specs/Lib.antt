@@ -1,0 +1,5 @@
+pub mod Said
+pub mod Hints
+pub mod Promises
+pub mod Ready
+pub mod Demands
