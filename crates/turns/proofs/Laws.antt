@@ -1,4 +1,4 @@
--- The rows of document 01 hold, the turn is the one candidate that is an angle, and the promise of `turn` allows one answer.
+-- The rows of document 01 hold, the turn is the one candidate that is an angle, and each promise allows one answer.
 use Prim.Native.Nat.{_+_, _≤_, _<_}
 use native.Mathlib.Omega.{arith}
 use mathlib.Core.Path.{_≡_, refl}
@@ -101,3 +101,7 @@ said-one (Refused n) (Refused n′) e = cc
 -- the promise of `turn` allows one answer
 pub turn-once : (a b : ℤ) (r r′ : Turned) → said r ≡ turnOf a b → said r′ ≡ turnOf a b → r ≡ r′
 turn-once a b r r′ p q = said-one r r′ (only p q)
+
+-- and so does the promise of `is_angle`
+pub angle-once : (a : ℤ) {r r′ : Bool} → r ≡ isAngle a → r′ ≡ isAngle a → r ≡ r′
+angle-once a p q = only p q

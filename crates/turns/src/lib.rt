@@ -11,7 +11,7 @@ pub enum Turned {
 }
 
 // Whether a lies in -180 to 179.
-fn is_angle(a: i16) -> bool
+pub fn is_angle(a: i16) -> bool
     ensures { λ r. ⌜ r ≡ isAngle a ⌝ }
 {
     -180 <= a && a <= 179

@@ -1,0 +1,15 @@
+pub mod Lists
+pub mod Signed
+pub mod Taking
+pub mod Checking
+pub mod Filling
+pub mod Sections
+pub mod Files
+pub mod Putting
+pub mod Writing
+pub mod Inverse
+pub mod Back
+pub mod Listed
+pub mod Numbered
+pub mod Round
+pub mod Unique

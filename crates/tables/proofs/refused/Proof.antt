@@ -1,0 +1,15 @@
+-- `refused` meets its contract.
+use mathlib.Core.Path.{refl}
+use Rattle.sets.specs.Sets.{empty}
+use Rattle.tables.proofs.refused.Statement.{statement}
+use Rattle.tables.proofs.refused.Tie as tie
+
+returns : tie.Need-returns
+unfolding empty
+returns c = record { refusal = refl; offset = refl; n = refl; starts = refl; safe = refl; moves = refl }
+
+pub refused-spec : {M : Type 1} → statement M
+refused-spec =
+    tie.close
+    (tie.spec
+    returns)

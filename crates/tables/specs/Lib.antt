@@ -1,0 +1,5 @@
+pub mod Lists
+pub mod Format
+pub mod Control
+pub mod Said
+pub mod Steps
