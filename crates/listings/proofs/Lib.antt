@@ -1,0 +1,7 @@
+pub mod Text
+pub mod Puts
+pub mod Members
+pub mod Lists
+pub mod Turns
+pub mod Tried
+pub mod Unique
