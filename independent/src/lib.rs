@@ -1,0 +1,43 @@
+//! A plain program written from document 01 ("What to make and its exact
+//! rules") and the published slide "AdjointPDR" of document 001, and from
+//! nothing else.  It exists to be compared, answer for answer and byte for
+//! byte, with another implementation.
+//!
+//! * `set`: a set of states, `full`, `count`, `smallest`.
+//! * `table`: the table, when it is sound, f and g (`forward`, `backward`).
+//! * `rules`: a run in the published notation (x ‖ y)_{n,k} and its rules.
+//! * `run_buffer`: the run buffer and its entry check.
+//! * `search`: the calls `fresh`, `single_rule` and `run`.
+//! * `file`: `read` and `write`.
+//! * `angle`: `turn`.
+//! * `list`: `listing`.
+//!
+//! For tests and comparison only:
+//!
+//! * `random`: SplitMix64.
+//! * `make`: random models, files, run buffers and hints, good and damaged.
+//! * `brute`: breadth-first reachability that uses nothing of the above.
+
+pub mod angle;
+pub mod brute;
+pub mod file;
+pub mod list;
+pub mod make;
+pub mod random;
+pub mod refusal;
+pub mod rules;
+pub mod run_buffer;
+pub mod search;
+pub mod set;
+pub mod table;
+
+pub use angle::turn;
+pub use file::{read, write, Read};
+pub use list::listing;
+pub use rules::Rule;
+pub use search::{fresh, run, single_rule, Outcome, RunAnswer};
+pub use set::{count, full, smallest, Set};
+pub use table::{backward, forward};
+
+#[cfg(test)]
+mod tests;
