@@ -19,7 +19,7 @@ said-one (Refused m) (Length n) e = cc
 said-one (Refused m) (Refused n) e = cc
 
 -- the answer and the output of any call that lists
-lists-once : (wanted : Answer (List ℕ)) (out : List ℕ) {a b : Listed} {l m : List ℕ} → Lists wanted out a l → Lists wanted out b m → (a ≡ b) × (l ≡ m)
+pub lists-once : (wanted : Answer (List ℕ)) (out : List ℕ) {a b : Listed} {l m : List ℕ} → Lists wanted out a l → Lists wanted out b m → (a ≡ b) × (l ≡ m)
 lists-once wanted out {a} {b} p q = (said-one a b (only (p .answer) (q .answer)), only (p .output) (q .output))
 
 pub refused-once :

@@ -10,7 +10,6 @@ use lib.Dec.{eqb}
 use lib.ListN.{length}
 use Rattle.moves.specs.Said.{moveRefusal, Answers}
 use Rattle.moves.specs.declared.Moved.{Moved}
-use Rattle.rules.proofs.Tried.{rows}
 use Rattle.rules.specs.Table.{soundRows}
 use Rattle.sets.proofs.Range.{range-says}
 use Rattle.sets.proofs.Tests.{Says, pass, fail}

@@ -9,7 +9,6 @@ use mathlib.Core.Path.{_≡_, refl, sym, ap, _∙_}
 use borrow.Author.Tests.{lt-ltb, ne-eqb}
 use lib.Dec.{ltb, eqb}
 use Rattle.moves.specs.Wide.{forward256, backward256}
-use Rattle.rules.proofs.Tried.{rows}
 use Rattle.rules.specs.Table.{row, leads, soundRow, soundRows, forward, backward}
 use Rattle.sets.proofs.Members.{member-of, member-past, set-ext, set-pad, member-empty, proper-of, proper-empty, proper-ext, proper-up}
 use Rattle.sets.proofs.Search.{any-says, all-says, any-suc, all-stop}

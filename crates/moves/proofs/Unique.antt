@@ -7,13 +7,10 @@ use Rattle.answers.proofs.Unique.{only}
 use Rattle.moves.specs.Said.{Answers}
 use Rattle.moves.specs.Wide.{forward256, backward256}
 use Rattle.moves.specs.declared.Moved.{Moved}
-use Rattle.rules.proofs.Tried.{rows}
 use Rattle.rules.specs.Table.{soundRows, forward, backward}
 use Rattle.sets.specs.Sets.{Set}
 use Rattle.sets.specs.declared.StateSet.{StateSet}
-
-only-set : {w : Set} {x y : StateSet} → x .words ≡ w → y .words ≡ w → x ≡ y
-only-set p q = λ i. record { words = only p q i }
+use Rattle.sets.proofs.Unique.{only-set}
 
 answers-once : {N : ℕ} {rows : List ℕ} {x result : Set} {a b : Moved} → Answers N rows x result a → Answers N rows x result b → a ≡ b
 answers-once p q = λ i. record { refusal = only (p .refusal) (q .refusal) i; set = only-set (p .set) (q .set) i }

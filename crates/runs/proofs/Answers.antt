@@ -7,11 +7,11 @@ use mathlib.Core.List.{List}
 use mathlib.Core.Logic.{_≢_}
 use mathlib.Core.Path.{_≡_, refl, sym, ap, _∙_}
 use lib.Dec.{eqb}
-use lib.ListN.{length, getD, set}
+use lib.ListN.{length, getD}
 use lib.Seq.{sets, length-sets, ext-getD}
 use Rattle.answers.specs.Answer.{given, refused}
 use Rattle.answers.specs.Refusals.{notAllowed, alreadyConcluded}
-use Rattle.rules.proofs.Budget.{run-result, run-keeps, budget}
+use Rattle.rules.proofs.Budget.{run-result, run-keeps}
 use Rattle.rules.proofs.Held.{held-back, fit-of, Fit}
 use Rattle.rules.proofs.Invariant.{Open, Invariant}
 use Rattle.rules.proofs.Meaning.{safe-at, never-noRoom}
@@ -20,7 +20,7 @@ use Rattle.rules.specs.Buffer.{encode, decode, Normal}
 use Rattle.rules.specs.Rules.{noRoom, conclusion, due, fire, State, Result, Rule, safe, reached, unfinished}
 use Rattle.rules.specs.Runs.{lacksRoom, run, walk, Outcome}
 use Rattle.rules.specs.Single.{takes, single, Fired}
-use Rattle.rules.specs.Table.{f, Table}
+use Rattle.rules.specs.Table.{Table}
 use Rattle.runs.proofs.Reading.{Words64}
 use Rattle.runs.proofs.Steps.{rule-is, hints-words}
 use Rattle.runs.proofs.Stores.{getD-sets-in}
@@ -34,7 +34,6 @@ use Rattle.runs.specs.declared.Standing.{Standing}
 use Rattle.runs.specs.declared.Standing.the-variants.{Safe, Reached, Unfinished}
 use Rattle.sets.proofs.Tests.{passed, and-true, eqb-says}
 use Rattle.sets.specs.Sets.{Set}
-use Rattle.rules.specs.Rules as rules
 use Rattle.rules.specs.Runs as runs
 use Rattle.runs.specs.declared.Rule as code
 use Rattle.runs.specs.declared.Standing as standing

@@ -6,10 +6,10 @@ use mathlib.Core.List.{List}
 use mathlib.Core.Logic.{inl, inr}
 use mathlib.Core.Path.{_≡_, refl, sym, ap, _∙_}
 use borrow.Author.Tests.{eq-eqb}
-use lib.ListN.{length, getD, set, drop, take, length-take}
+use lib.ListN.{length, getD, drop, take, length-take}
 use lib.Seq.{sets, take-at, sets-eq}
 use Rattle.answers.specs.Answer.{given}
-use Rattle.rules.proofs.Budget.{run-result, budget}
+use Rattle.rules.proofs.Budget.{run-result}
 use Rattle.rules.proofs.Demands.{demand-2, demand-3}
 use Rattle.rules.proofs.Entry.{inv-entry}
 use Rattle.rules.proofs.Held.{fit-by, Fit}
@@ -33,7 +33,6 @@ use Rattle.sets.proofs.Range.{range-says}
 use Rattle.sets.proofs.Tests.{passed}
 use Rattle.rules.specs.Runs as runs
 use Rattle.rules.specs.Demands as rules
-use Rattle.runs.specs.declared.Outcome as outcome
 use Rattle.runs.specs.declared.RunAnswer as answer
 
 -- ---- what is said, taken apart
@@ -59,7 +58,7 @@ unfolding decode
 n-of c = refl
 
 -- a walk written over the first places
-take-sets : (w l : List ℕ) → length w ≤ length l → take (length w) (sets l 0 w) ≡ w
+pub take-sets : (w l : List ℕ) → length w ≤ length l → take (length w) (sets l 0 w) ≡ w
 take-sets w l h = rw (sets-eq w l 0 (omega arith)) (take-at w (drop (0 + length w) l) (length w) refl)
 
 module _ (t : Table) (hints b set walk : List ℕ) (l : Lent t hints b set walk) where

@@ -9,7 +9,6 @@ use lib.ListN.{length, getD}
 use Rattle.rules.proofs.Buffer.{quad-x, quad-y}
 use Rattle.rules.proofs.Entry.{true-held, held-is, each-no, ranges-say}
 use Rattle.rules.proofs.Held.{held-by, Held, Fit}
-use Rattle.rules.proofs.Tried.{rows}
 use Rattle.rules.specs.Buffer.{decode, each, held, keptX, keptY, ranges, rises, falls, parts, entryCheck}
 use Rattle.rules.specs.Table.{soundTable, forward, backward, f, g, Table}
 use Rattle.runs.specs.Ready.{orderTests, Good, Ready}

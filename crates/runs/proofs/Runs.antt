@@ -6,14 +6,13 @@ use mathlib.Core.Bool.{Bool, true, false}
 use mathlib.Core.List.{List, [], _∷_}
 use mathlib.Core.Logic.{_≢_}
 use mathlib.Core.Path.{_≡_, sym, ap, _∙_}
-use Rattle.rules.proofs.Budget.{budget}
 use Rattle.rules.proofs.Ends.{run-none, run-done, run-open}
 use Rattle.rules.proofs.Held.{Fit}
 use Rattle.rules.proofs.Invariant.{Open}
 use Rattle.rules.specs.Buffer.{encode, decode}
 use Rattle.rules.specs.Rules.{conclusion, due, house, fire, unfinished}
 use Rattle.rules.specs.Runs.{pick, stop, asks, offered, after, willDo, choose, next, run, Choice, Outcome}
-use Rattle.rules.specs.Table.{f, Table}
+use Rattle.rules.specs.Table.{Table}
 use Rattle.runs.proofs.Reading.{Words64}
 use Rattle.runs.proofs.Steps.{hints-words, step-fit, step-back}
 use Rattle.runs.specs.Hints.{hintsAt, chosen}

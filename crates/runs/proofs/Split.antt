@@ -7,7 +7,7 @@ use mathlib.Core.List.{List}
 use mathlib.Core.Logic.{inl, inr}
 use mathlib.Core.Path.{_≡_, refl, sym, ap, _∙_, ap₂}
 use borrow.Author.Tests.{eq-eqb}
-use lib.ListN.{length, set, drop, length-drop}
+use lib.ListN.{length, drop, length-drop}
 use lib.Seq.{getD-drop}
 use Rattle.rules.proofs.Budget.{budget}
 use Rattle.rules.proofs.Demands.{fresh-inv}
@@ -15,7 +15,6 @@ use Rattle.rules.proofs.Ends.{run-ind}
 use Rattle.rules.proofs.Held.{kept-accepts}
 use Rattle.rules.proofs.Invariant.{Invariant}
 use Rattle.rules.proofs.Normal.{fresh-normal}
-use Rattle.rules.proofs.Tried.{rows}
 use Rattle.rules.specs.Buffer.{encode, decode, entryCheck}
 use Rattle.rules.specs.Rules.{fresh, due, house, State}
 use Rattle.rules.specs.Runs.{pick, stop, asks, offered, after, andThen, willDo, choose, run, walk, Outcome}

@@ -2,19 +2,10 @@
 use Prim.Native.Nat.{ℕ}
 use mathlib.Core.List.{List}
 use mathlib.Core.Path.{_≡_, refl, sym, ap, _∙_}
-use lib.ListN.{set}
 use Rattle.answers.proofs.Unique.{only}
-use Rattle.rules.proofs.Budget.{budget}
-use Rattle.rules.specs.Rules.{Rule, Unfold, Candidate, Decide, Conflict}
-use Rattle.rules.specs.Runs.{walk, Outcome}
-use Rattle.rules.specs.Single.{Fired}
 use Rattle.rules.specs.Table.{Table}
 use Rattle.runs.specs.Promises.{RunPromise, FreshPromise, SinglePromise}
 use Rattle.runs.specs.Said.{said, asRule, ruleOf, saidOne}
-use Rattle.runs.specs.declared.Asked.{Asked}
-use Rattle.runs.specs.declared.Asked.the-variants.{Refused}
-use Rattle.runs.specs.declared.RunAnswer.{RunAnswer}
-use Rattle.runs.specs.declared.Standing.the-variants.{Safe, Reached, Unfinished}
 use Rattle.sets.specs.Sets.{Set}
 use Rattle.runs.specs.declared.Rule as code
 use Rattle.runs.specs.declared.Asked as asked

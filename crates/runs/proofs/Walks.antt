@@ -12,7 +12,6 @@ use lib.Seq.{sets}
 use Rattle.moves.proofs.Rows.{leads-below}
 use Rattle.rules.proofs.Held.{Fit}
 use Rattle.rules.proofs.Invariant.{Invariant}
-use Rattle.rules.proofs.Tried.{rows}
 use Rattle.rules.specs.Buffer.{decode}
 use Rattle.rules.specs.Rules.{closes, conclusion, State, reached}
 use Rattle.rules.specs.Runs.{orZero, firstState, nextState, walkFrom, walk}

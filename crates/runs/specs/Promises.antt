@@ -11,7 +11,6 @@ use Rattle.answers.specs.Refusals as refusals
 use Rattle.answers.specs.Refusals.{noRefusal, outOfRange, wrongLength, failsEntry, notSound}
 use Rattle.sets.specs.Sets.{Set, inRange, sizeRefusal}
 use Rattle.rules.specs.Table.{Table, table, soundTable}
-use Rattle.rules.specs.Rules as rules
 use Rattle.rules.specs.Rules.{State, Result, safe, reached, unfinished, noRoom, Rule, fresh}
 use Rattle.rules.specs.Runs as runs
 use Rattle.rules.specs.Runs.{run, walk}

@@ -13,7 +13,7 @@ use Rattle.sets.specs.declared.Smallest.{Smallest}
 use Rattle.sets.specs.declared.Smallest.the-variants.{Member, Nothing}
 
 -- a promise of a set's words
-only-set : {w : Set} {x y : StateSet} → x .words ≡ w → y .words ≡ w → x ≡ y
+pub only-set : {w : Set} {x y : StateSet} → x .words ≡ w → y .words ≡ w → x ≡ y
 only-set p q = λ i. record { words = only p q i }
 
 -- no two answers of `smallest` say the same

@@ -158,7 +158,7 @@ module _ {rows : List ℕ} {angles : List ℤ} {modes : List ℕ} {r : Reading} 
     abbrev answered : Control
     answered = controlFrom (r .n) (r .starts .words) (r .safe .words) rows′ angles′ modes′
 
-    read-listed : (l : Listing) × (listing file ≡ taken l) × (answered ≡ controlOf l)
+    pub read-listed : (l : Listing) × (listing file ≡ taken l) × (answered ≡ controlOf l)
     unfolding reading
     read-listed =
         let (l, s, f) = taken-is file rows angles modes (sym (p .refusal) ∙ e) in

@@ -4,7 +4,6 @@ use mathlib.Core.Path.{_≡_, sym, ap, _∙_}
 use borrow.Author.Needs.{needs}
 use lib.ListN.{length}
 use Rattle.moves.proofs.Refused.{taken}
-use Rattle.rules.proofs.Budget.{budget}
 use Rattle.rules.proofs.Buffer.{encode-length}
 use Rattle.rules.proofs.Ends.{has-room}
 use Rattle.rules.proofs.Held.{Fit}

@@ -1,8 +1,6 @@
 use borrow.Author.Needs.{needs}
 use Rattle.sets.proofs.StateSet.sound.Statement.{statement}
 use Rattle.sets.proofs.StateSet.sound.Tie as tie
-use Rattle.sets.proofs.StateSet.sound.Lts as lts
-use Rattle.sets.proofs.StateSet.sound.Reads as reads
 use mathlib.Core.Path.{sym, _∙_}
 use native.Mathlib.Omega.{arith}
 use Rattle.sets.proofs.Range.{full-set}
