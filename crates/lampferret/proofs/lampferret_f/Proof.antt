@@ -1,0 +1,17 @@
+use borrow.Author.Needs.{needs}
+use Rattle.lampferret.proofs.lampferret_f.Statement.{statement}
+use Rattle.lampferret.proofs.lampferret_f.Tie as tie
+use Rattle.rules.specs.Table.{forward}
+use Rattle.lampferret.proofs.Giving.{moved-given}
+
+returns : tie.Need-returns
+returns c = moved-given forward (c .before .before .before .set-of .ensures) (c .before .before .f .ensures) (c .give-set .ensures)
+
+pub lampferret-f-spec : {M : Type 1} → statement M
+lampferret-f-spec =
+    tie.close
+    (tie.spec
+    (λ c κs. search needs)
+    (λ c κs. search needs)
+    (λ c κs. search needs)
+    returns)

@@ -1,0 +1,17 @@
+use borrow.Author.Needs.{needs}
+use Rattle.lampferret.proofs.lampferret_g.Statement.{statement}
+use Rattle.lampferret.proofs.lampferret_g.Tie as tie
+use Rattle.rules.specs.Table.{backward}
+use Rattle.lampferret.proofs.Giving.{moved-given}
+
+returns : tie.Need-returns
+returns c = moved-given backward (c .before .before .before .set-of .ensures) (c .before .before .g .ensures) (c .give-set .ensures)
+
+pub lampferret-g-spec : {M : Type 1} → statement M
+lampferret-g-spec =
+    tie.close
+    (tie.spec
+    (λ c κs. search needs)
+    (λ c κs. search needs)
+    (λ c κs. search needs)
+    returns)

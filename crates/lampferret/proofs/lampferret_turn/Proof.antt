@@ -1,0 +1,17 @@
+use borrow.Author.Needs.{needs}
+use Rattle.lampferret.proofs.lampferret_turn.Statement.{statement}
+use Rattle.lampferret.proofs.lampferret_turn.Tie as tie
+use mir.Syntax.{w16}
+use mir.ValLaws.{toZ-ofZ}
+use Rattle.lampferret.proofs.Giving.{passed}
+
+returns : tie.Need-returns
+returns c = passed (c .give-turn .ensures) (rw (toZ-ofZ w16 _ (c .before .before .before .fits .a), toZ-ofZ w16 _ (c .before .before .before .fits .b)) at (c .before .before .turn .ensures))
+
+pub lampferret-turn-spec : {M : Type 1} → statement M
+lampferret-turn-spec =
+    tie.close
+    (tie.spec
+    (λ c κs. search needs)
+    (λ c κs. search needs)
+    returns)
