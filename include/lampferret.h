@@ -21,6 +21,7 @@ enum {
     LAMPFERRET_MOVES_WORDS = 1024,
     LAMPFERRET_STATES = 256, /* the length of the angles, the modes and the walk */
     LAMPFERRET_FILE_BYTES = 18184, /* the longest file */
+    LAMPFERRET_LISTING_BYTES = 5424, /* no listing has more */
     LAMPFERRET_NO_MEMBER = 256 /* lampferret_smallest of the empty set */
 };
 

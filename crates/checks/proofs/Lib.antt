@@ -2,3 +2,4 @@ pub mod Ends
 pub mod Verdicts
 pub mod Readings
 pub mod Unique
+pub mod Fits
