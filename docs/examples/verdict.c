@@ -20,12 +20,17 @@ int main(void) {
         return 1;
     }
     uint64_t n = counts[0];
-    lampferret_fresh(counts[0], run, LAMPFERRET_RUN_WORDS);
-    lampferret_run(moves, LAMPFERRET_MOVES_WORDS, counts[0], starts, safe, run, LAMPFERRET_RUN_WORDS, no_hints,
-                   0, 2 * n * n + 2 * n, set, 4, walk, LAMPFERRET_STATES, answer);
-    if (answer[0] == LAMPFERRET_SAFE)
+    refused = lampferret_fresh(counts[0], run, LAMPFERRET_RUN_WORDS);
+    if (!refused)
+        refused = lampferret_run(moves, LAMPFERRET_MOVES_WORDS, counts[0], starts, safe, run, LAMPFERRET_RUN_WORDS, no_hints,
+                                 0, 2 * n * n + 2 * n, set, 4, walk, LAMPFERRET_STATES, answer);
+    if (refused)
+        printf("refused %d\n", refused);
+    else if (answer[0] == LAMPFERRET_SAFE)
         printf("safe: no walk leaves a set of %d states\n", lampferret_count(set));
-    else
+    else if (answer[0] == LAMPFERRET_REACHED)
         printf("reached: state %d, by a walk of %d states\n", walk[answer[1] - 1], (int)answer[1]);
+    else
+        printf("unfinished: the budget was too small\n");
     return 0;
 }

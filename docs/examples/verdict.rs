@@ -39,29 +39,33 @@ fn read(file: &[u8]) -> Result<Table, (u8, usize)> {
     if refused == 0 { Ok(t) } else { Err((refused, offset)) }
 }
 
-/// The verdict on a table: a run without hints, on a budget that is always enough.
-fn verdict(t: &Table) -> String {
+/// The verdict on a table: a run without hints, on a budget that is always enough; or a refusal's number.
+fn verdict(t: &Table) -> Result<String, u8> {
     let (mut run, mut set, mut walk, mut answer) = ([0; 2066], [0; 4], [0; 256], [0; 5]);
     let n = u64::from(t.n);
-    unsafe {
-        lampferret_fresh(t.n, run.as_mut_ptr(), 2066);
-        lampferret_run(
-            t.moves.as_ptr(), 1024, t.n, t.starts.as_ptr(), t.safe.as_ptr(), run.as_mut_ptr(), 2066, [].as_ptr(), 0,
-            2 * n * n + 2 * n, set.as_mut_ptr(), 4, walk.as_mut_ptr(), 256, answer.as_mut_ptr(),
-        );
-        if answer[0] == 1 {
-            format!("safe: no walk leaves a set of {} states", lampferret_count(set.as_ptr()))
-        } else {
-            format!("reached: state {}, by a walk of {} states", walk[answer[1] as usize - 1], answer[1])
-        }
+    let mut refused = unsafe { lampferret_fresh(t.n, run.as_mut_ptr(), 2066) };
+    if refused == 0 {
+        refused = unsafe {
+            lampferret_run(
+                t.moves.as_ptr(), 1024, t.n, t.starts.as_ptr(), t.safe.as_ptr(), run.as_mut_ptr(), 2066, [].as_ptr(), 0,
+                2 * n * n + 2 * n, set.as_mut_ptr(), 4, walk.as_mut_ptr(), 256, answer.as_mut_ptr(),
+            )
+        };
+    }
+    match (refused, answer[0]) {
+        (0, 0) => Ok("unfinished: the budget was too small".into()),
+        (0, 1) => Ok(format!("safe: no walk leaves a set of {} states", unsafe { lampferret_count(set.as_ptr()) })),
+        (0, _) => Ok(format!("reached: state {}, by a walk of {} states", walk[answer[1] as usize - 1], answer[1])),
+        _ => Err(refused),
     }
 }
 
 fn main() {
     let mut file = Vec::new();
     std::io::stdin().read_to_end(&mut file).expect("standard input can be read");
-    match read(&file) {
-        Ok(table) => println!("{}", verdict(&table)),
+    match read(&file).map(|table| verdict(&table)) {
+        Ok(Ok(text)) => println!("{text}"),
+        Ok(Err(number)) => println!("refused {number}"),
         Err((number, offset)) => println!("refused {number} at {offset}"),
     }
 }
