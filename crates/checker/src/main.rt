@@ -4,8 +4,8 @@ use libc::STDIN_FILENO;
 use libc::STDOUT_FILENO;
 use listings::Listed;
 
-// The longest file has 18,184 bytes, so one byte more tells that bytes are left over. No listing has
-// more than 5,424 bytes: `check-fits` of `checks`.
+// No byte past the first 18,185 changes a listing, and no listing has more than 5,424: `check-front` and
+// `check-fits` of `checks`.
 fn main() {
     let mut file = [0u8; 18185];
     let length = io::read_full(STDIN_FILENO, &mut file);

@@ -3,3 +3,4 @@ pub mod Verdicts
 pub mod Readings
 pub mod Unique
 pub mod Fits
+pub mod Fronts

@@ -18,7 +18,7 @@ use Rattle.rules.specs.Demands.{bound, Ended, ended-safe, ended-reached}
 use Rattle.rules.specs.Rules.{fresh, Result, reached}
 use Rattle.rules.specs.Runs as rules
 use Rattle.rules.specs.Runs.{run, walk}
-use Rattle.rules.specs.Table.{Table, table}
+use Rattle.rules.specs.Table.{Table}
 use Rattle.runs.proofs.Demands.{take-sets}
 use Rattle.runs.specs.Hints.{hintsFrom, hintsAt}
 use Rattle.runs.specs.Promises.{freshRefusal, FreshPromise, runRefusal, lengthsOk, runAnswer, ran, setAfter, walkAfter, Answered, RunPromise}
@@ -60,15 +60,10 @@ no-hints : hintsAt [] 0 ≡ []
 unfolding hintsFrom
 no-hints = refl
 
--- a fresh run knows only N
-fresh-same : (t : Table) (I P rows : List ℕ) → fresh (table (t .size) I P rows) ≡ fresh t
-unfolding fresh
-fresh-same t I P rows = refl
-
 -- a fresh run buffer of the right length holds a fresh run
 held-is : (t : Table) (b b′ : List ℕ) (r : ℕ) → FreshPromise (t .size) b b′ r → length b ≡ 2066 → sizeRefusal (t .size) ≡ 0 → b′ ≡ encode (fresh t)
 unfolding freshRefusal
-held-is t b b′ r p len e = p .buffer ∙ rw (eq-eqb (length b) 2066 len, e, fresh-same t b b b)
+held-is t b b′ r p len e = p .buffer ∙ rw (eq-eqb (length b) 2066 len, e)
 
 module _ {c : Control} (g : Sought c) where
   abbrev t : Table

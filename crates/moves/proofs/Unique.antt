@@ -7,7 +7,7 @@ use Rattle.answers.proofs.Unique.{only}
 use Rattle.moves.specs.Said.{Answers}
 use Rattle.moves.specs.Wide.{forward256, backward256}
 use Rattle.moves.specs.declared.Moved.{Moved}
-use Rattle.rules.specs.Table.{soundRows, forward, backward}
+use Rattle.rules.specs.Table.{Table, soundTable, soundRows, forward, backward}
 use Rattle.sets.specs.Sets.{Set}
 use Rattle.sets.specs.declared.StateSet.{StateSet}
 use Rattle.sets.proofs.Unique.{only-set}
@@ -17,6 +17,9 @@ answers-once p q = λ i. record { refusal = only (p .refusal) (q .refusal) i; se
 
 pub sound-rows-once : (N : ℕ) (rows : List ℕ) {a b : Bool} → a ≡ soundRows N rows → b ≡ soundRows N rows → a ≡ b
 sound-rows-once N rows = only
+
+pub sound-table-once : (t : Table) {a b : Bool} → a ≡ soundTable t → b ≡ soundTable t → a ≡ b
+sound-table-once t = only
 
 pub forward-once : (N : ℕ) (rows : List ℕ) (x : Set) {a b : StateSet} → a .words ≡ forward256 N rows x → b .words ≡ forward256 N rows x → a ≡ b
 forward-once N rows x = only-set

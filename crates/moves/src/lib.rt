@@ -4,7 +4,7 @@
 // have made it once; they answer for any words all the same.
 use sets::StateSet;
 ghost use mathlib.Core.Path.{_≡_};
-ghost use Rattle.rules.specs.Table.{soundRows, soundRow, forward as f, backward as g};
+ghost use Rattle.rules.specs.Table.{table, soundTable, soundRows, soundRow, forward as f, backward as g};
 ghost use Rattle.moves.specs.Wide.{forward256, backward256};
 ghost use Rattle.moves.specs.Said.{Answers, moveRefusal};
 
@@ -32,6 +32,19 @@ pub fn sound_rows(moves: &[u64], n: u16) -> bool
         }
     }
     true
+}
+
+// Whether the table is sound: the starts, the safe states and all rows.
+pub fn sound_table(moves: &[u64], n: u16, starts: StateSet, safe: StateSet) -> bool
+    ensures { λ r. ⌜ r ≡ soundTable (table n (starts .words) (safe .words) (now (moves .entry))) ⌝ }
+{
+    if !starts.sound(n) {
+        return false;
+    }
+    if !safe.sound(n) {
+        return false;
+    }
+    sound_rows(moves, n)
 }
 
 // f, with no test: every number below 256 with a move into it from a member of x below n.

@@ -18,7 +18,7 @@ use Rattle.rules.proofs.Normal.{fire-normal}
 use Rattle.rules.proofs.Published.{is-step, step-is, run-steps}
 use Rattle.rules.specs.Buffer.{decode}
 use Rattle.rules.specs.Demands.{bound, Passes, Ended, Same, Adjoint, Kept, Published, Demand2, Demand3, Budget, Encoding, Rewritten, ended-safe, ended-reached, same-safe, same-reached}
-use Rattle.rules.specs.Rules.{noRoom, fresh, conclusion, due, State, Result, safe, reached, unfinished}
+use Rattle.rules.specs.Rules.{noRoom, fresh, freshOf, conclusion, due, State, Result, safe, reached, unfinished}
 use Rattle.rules.specs.Runs.{stop, andThen, run, Outcome}
 use Rattle.rules.specs.Table.{f, g, Table}
 use Rattle.rules.specs.Walks.{BadReached, Closed}
@@ -51,15 +51,15 @@ module _ (t : Table) (big : t .size ≤ 256) where
 
   -- x_1 of a fresh run is full
   fresh-up : (w : Set) (j : ℕ) → suc j < 2 → Within (t .size) w ((fresh t) .x (suc j))
-  unfolding fresh
+  unfolding freshOf
   fresh-up w j l = let q : j ≡ 0 = omega arith in rw (q, put-same) (within-full (t .size) big w)
 
   fresh-x0 : (fresh t) .x 0 ≡ empty
-  unfolding fresh
+  unfolding freshOf
   fresh-x0 = put-other (λ j. empty) 1 (full (t .size)) 0 (omega arith)
 
   pub fresh-inv : Invariant t (fresh t)
-  unfolding fresh
+  unfolding freshOf
   fresh-inv =
       record {
         two = omega arith;

@@ -125,12 +125,6 @@ fit-by t big b len words ok =
     let r = ranges-say t (decode b) (p .1 .1 .0) in
     record { held = held-by t big b len words (p .0) (p .1 .0) (omega (arith, r .1)); inv = entry-inv t (decode b) (true-each (conditions t (decode b)) (p .1 .1)) }
 
-module _ (t : Table) (big : t .size ≤ 256) (b : List ℕ) (v : Fit t b) where
-  -- a run's buffer, taken up again, is the state that the run left
-  pub run-back : Proper (t .size) (t .safe) → (n : ℕ) (hs : List Set) → Words hs → decode (encode ((run t n hs (decode b)) .state)) ≡ (run t n hs (decode b)) .state
-  run-back sf n hs w =
-      decode-encode t _ (run-normal t big sf n hs (decode b) (v .inv) w (v .held .norm)) (omega (arith, (run-keeps t big n hs (decode b) (v .inv)) .cap))
-
 -- a state that the rules keep makes a buffer that fits
 module _ (t : Table) (big : t .size ≤ 256) (s : State) (v : Invariant t s) (m : Normal t s) where
   pub held-back : decode (encode s) ≡ s

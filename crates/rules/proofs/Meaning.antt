@@ -173,16 +173,3 @@ module _ (t : Table) where
 
     pub reached-bad : (s : State) → Invariant t s → conclusion t s ≡ reached → (u : ℕ) × Walked t (s .n - 1) u × Bad t u
     reached-bad s v e = rw (walk-length s) at (real-walked (reached-real s v e))
-
-    -- ---- two states of one table never disagree, and two reached ones have walks of one length
-    pub agree : (s s′ : State) (j : ℕ) → Invariant t s → Invariant t s′ → conclusion t s ≡ safe j → conclusion t s′ ≡ reached → ⊥
-    agree s s′ j v v′ e e′ =
-        let r = reached-bad s′ v′ e′ in
-        closed-safe (safe-closed s j v e) (record { states = s′ .n - 1; last = r .0; walked = r .1; bad = r .2 })
-
-    pub not-longer : (s s′ : State) → Invariant t s → Invariant t s′ → conclusion t s′ ≡ reached → s .n ≤ s′ .n
-    not-longer s s′ v v′ e′ =
-        elim (lt-or-ge (s′ .n) (s .n)) [
-          | inl l ↦ let r = reached-bad s′ v′ e′ in absurd (clash (none-shorter s v (r .1) (omega (arith, v′ .two))) (r .2 .unsafe))
-          | inr l ↦ l
-        ]

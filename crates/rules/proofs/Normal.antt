@@ -10,7 +10,7 @@ use Rattle.rules.proofs.Ends.{run-ind}
 use Rattle.rules.proofs.Invariant.{put-same, put-other, cut-high, Invariant}
 use Rattle.rules.proofs.Keep.{due-is, Due, isUnfold, isCandidate, isDecide, isConflict}
 use Rattle.rules.specs.Buffer.{Normal}
-use Rattle.rules.specs.Rules.{put, cut, fresh, due, allowed, house, fire, State, Rule, Unfold, Candidate, Decide, Conflict}
+use Rattle.rules.specs.Rules.{put, cut, fresh, freshOf, due, allowed, house, fire, State, Rule, Unfold, Candidate, Decide, Conflict}
 use Rattle.rules.specs.Runs.{pick, stop, asks, offered, after, willDo, choose, next, run}
 use Rattle.rules.specs.Table.{backward, f, g, Table}
 use Rattle.sets.proofs.Members.{proper-of, proper-empty, proper-sound}
@@ -53,7 +53,7 @@ module _ (t : Table) (big : t .size ≤ 256) where
       go false = h j
 
   pub fresh-normal : Normal t (fresh t)
-  unfolding fresh
+  unfolding freshOf
   fresh-normal =
       record {
         proper-x = put-all (Proper (t .size)) (λ _. empty) 1 (full (t .size)) proper-full (λ j. proper-empty (t .size) big);

@@ -44,10 +44,13 @@ concludes (some j) b = safe j
 concludes none true = reached
 concludes none false = unfinished
 
+-- a fresh run of N states: n = k = 2, x_0 empty, x_1 full, no y
+unfoldable pub freshOf : ℕ → State
+freshOf N = state 2 2 (put (λ j. empty) 1 (full N)) (λ j. empty)
+
 module _ (t : Table) where
-  -- n = k = 2, x_0 empty, x_1 full, no y
-  unfoldable pub fresh : State
-  fresh = state 2 2 (put (λ j. empty) 1 (full (t .size))) (λ j. empty)
+  abbrev pub fresh : State
+  fresh = freshOf (t .size)
 
   -- x_(j+1) is within x_j
   unfoldable pub closes : State → ℕ → Bool

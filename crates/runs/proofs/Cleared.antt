@@ -10,7 +10,7 @@ use lib.ListN.{length, getD, set}
 use lib.Seq.{sets, ext-getD, getD-set-same, getD-set-other}
 use Rattle.rules.proofs.Buffer.{at-x, at-y, encode-n, encode-k, encode-length}
 use Rattle.rules.specs.Buffer.{encode}
-use Rattle.rules.specs.Rules.{put, fresh}
+use Rattle.rules.specs.Rules.{put, freshOf}
 use Rattle.rules.specs.Table.{table}
 use Rattle.runs.proofs.Stores.{set-n, set-k, place, put-x, Place, first, second, inX, inY}
 use Rattle.runs.specs.Promises.{freshRefusal, FreshPromise}
@@ -43,10 +43,10 @@ zero-more b j l h i m =
       | inr n ↦ getD-set-other b j i 0 0 n ∙ h i (omega (arith, n))
     ]
 
-pub fresh-is : (N : ℕ) (b0 b1 b2 b3 b4 : List ℕ) (v : Set) → length v ≡ 4 → v ≡ full N → b1 ≡ encode nothing → b2 ≡ sets b1 6 v → b3 ≡ set b2 0 2 → b4 ≡ set b3 1 2
-    → b4 ≡ encode (fresh (table N b0 b0 b0))
-unfolding fresh
-fresh-is N b0 b1 b2 b3 b4 v four ev e1 e2 e3 e4 =
+pub fresh-is : (N : ℕ) (b1 b2 b3 b4 : List ℕ) (v : Set) → length v ≡ 4 → v ≡ full N → b1 ≡ encode nothing → b2 ≡ sets b1 6 v → b3 ≡ set b2 0 2 → b4 ≡ set b3 1 2
+    → b4 ≡ encode (freshOf N)
+unfolding freshOf
+fresh-is N b1 b2 b3 b4 v four ev e1 e2 e3 e4 =
     e4 ∙ ap (λ (c : List ℕ). set c 1 2) (e3 ∙ ap (λ (c : List ℕ). set c 0 2) (e2 ∙ ap (λ (c : List ℕ). sets c 6 v) e1 ∙ put-x nothing 1 v four (omega arith)) ∙ set-n _ _) ∙ set-k _ _
     ∙ ap (λ (w : Set). encode (record { n = 2; k = 2; x = put (λ j. empty) 1 w; y = λ j. empty })) ev
 
@@ -60,7 +60,7 @@ module _ (N : ℕ) (b : List ℕ) where
   unfolding freshRefusal
   fresh-2 len n e h = record { answer = rw (eq-eqb (length b) 2066 len) e; buffer = rw (eq-eqb (length b) 2066 len, ← e, ne-eqb n 0 h) }
 
-  pub fresh-0 : length b ≡ 2066 → (n : ℕ) → n ≡ sizeRefusal N → n ≡ 0 → (b′ : List ℕ) → b′ ≡ encode (fresh (table N b b b)) → FreshPromise N b b′ 0
+  pub fresh-0 : length b ≡ 2066 → (n : ℕ) → n ≡ sizeRefusal N → n ≡ 0 → (b′ : List ℕ) → b′ ≡ encode (freshOf N) → FreshPromise N b b′ 0
   unfolding freshRefusal
   fresh-0 len n e z b′ q = record { answer = rw (eq-eqb (length b) 2066 len) (sym z ∙ e); buffer = rw (eq-eqb (length b) 2066 len, ← e, eq-eqb n 0 z) q }
 

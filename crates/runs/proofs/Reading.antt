@@ -100,9 +100,6 @@ module _ (t : Table) (b : List ℕ) (r : Ready t b) where
   pub y-is : (j at : ℕ) → at ≡ 1034 + 4 * j → j < getD b 0 0 → quad b at ≡ (decode b) .y j
   y-is j at e l = y-at t b (r .held) j at e (omega (arith, r .cap, r .good .big))
 
-  pub x-in : (j : ℕ) (z : Set) → within 256 ((decode b) .x j) z ≡ within (t .size) ((decode b) .x j) z
-  x-in j z = within-256 (t .size) (r .good .big) _ z (r .held .norm .proper-x j)
-
 pub proper-within : (N : ℕ) → N ≤ 256 → {x u y z : Set} → Proper N y → x ≡ y → u ≡ z → within 256 x u ≡ within N y z
 proper-within N big {x} {u} {y} {z} h e d = rw (e, d) (within-256 N big y z h)
 
@@ -181,9 +178,6 @@ range-are t b e = e
 pub and-same : (a : Bool) → a ≡ (a && true)
 and-same true = refl
 and-same false = refl
-
-pub and-two : (a b d : Bool) → a ≡ true → b ≡ true → d ≡ (a && (b && d))
-and-two a b d p q = rw (p, q)
 
 pub each-1 : (a b d : Bool) → a ≡ false → false ≡ each (a ∷ b ∷ d ∷ [])
 unfolding each

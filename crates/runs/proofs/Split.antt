@@ -120,11 +120,7 @@ module _ (t : Table) (hints b set walk set₂ walk₂ set₃ walk₃ : List ℕ)
       }
 
 -- ---- a fresh run buffer
-fresh-same : (t : Table) (I P rows : List ℕ) → fresh (table (t .size) I P rows) ≡ fresh t
-unfolding fresh
-fresh-same t I P rows = refl
-
 pub fresh-enters : (t : Table) → t .size ≤ 256 → (b b′ : List ℕ) → FreshPromise (t .size) b b′ 0 → entryCheck t b′ ≡ true
 fresh-enters t le b b′ p =
-    let e : b′ ≡ encode (fresh (table (t .size) b b b)) = rw (eq-eqb (freshRefusal (t .size) b) 0 (sym (p .answer))) at (p .buffer) in
-    rw (e, fresh-same t b b b) (kept-accepts t le (fresh t) (fresh-inv t le) (fresh-normal t le))
+    let e : b′ ≡ encode (fresh t) = rw (eq-eqb (freshRefusal (t .size) b) 0 (sym (p .answer))) at (p .buffer) in
+    rw e (kept-accepts t le (fresh t) (fresh-inv t le) (fresh-normal t le))

@@ -11,7 +11,7 @@ use Rattle.answers.specs.Refusals as refusals
 use Rattle.answers.specs.Refusals.{noRefusal, outOfRange, wrongLength, failsEntry, notSound}
 use Rattle.sets.specs.Sets.{Set, inRange, sizeRefusal}
 use Rattle.rules.specs.Table.{Table, table, soundTable}
-use Rattle.rules.specs.Rules.{State, Result, safe, reached, unfinished, noRoom, Rule, fresh}
+use Rattle.rules.specs.Rules.{State, Result, safe, reached, unfinished, noRoom, Rule, freshOf}
 use Rattle.rules.specs.Runs as runs
 use Rattle.rules.specs.Runs.{run, walk}
 use Rattle.rules.specs.Single.{Fired, single}
@@ -27,7 +27,7 @@ freshRefusal N b = cond (eqb (length b) 2066) (sizeRefusal N) wrongLength
 
 pub record FreshPromise (N : ℕ) (b b′ : List ℕ) (r : ℕ) : Type 0 where
   pub answer : r ≡ freshRefusal N b
-  pub buffer : b′ ≡ cond (eqb (freshRefusal N b) noRefusal) (encode (fresh (table N b b b))) b
+  pub buffer : b′ ≡ cond (eqb (freshRefusal N b) noRefusal) (encode (freshOf N)) b
 
 -- ---- 7, 2, 13, 8; `lengths` says whether the buffers that only a run is lent fit
 unfoldable pub runRefusal : Table → List ℕ → Bool → ℕ

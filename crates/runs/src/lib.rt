@@ -8,7 +8,7 @@ ghost use mathlib.Core.Path.{_≡_};
 ghost use mathlib.Core.Bool.{true};
 ghost use lib.ListN.{length};
 ghost use Prim.Native.Nat.{_-_};
-ghost use Rattle.rules.specs.Table.{table, soundTable};
+ghost use Rattle.rules.specs.Table.{table};
 ghost use Rattle.rules.specs.Rules.{conclusion, due};
 ghost use Rattle.rules.specs.Runs.{run};
 ghost use Rattle.rules.specs.Single.{takes};
@@ -31,8 +31,8 @@ pub enum Rule {
     Conflict,
 }
 
-// How a run stands; only private calls name it.
-pub enum Standing {
+// How a run stands.
+enum Standing {
     Safe(usize),
     Reached,
     Unfinished,
@@ -92,19 +92,6 @@ fn clear(buf: &mut [u64])
     }
 }
 
-// Whether the table is sound: I, P and the rows.
-fn sound(moves: &[u64], size: u16, i: StateSet, p: StateSet) -> bool
-    ensures { λ r. ⌜ r ≡ soundTable (table size (i .words) (p .words) (now (moves .entry))) ⌝ }
-{
-    if !i.sound(size) {
-        return false;
-    }
-    if !p.sound(size) {
-        return false;
-    }
-    moves::sound_rows(moves, size)
-}
-
 // The refusals that a run and a single rule share, 7, 2, 13, 8, or 0; `lengths` says whether the other lent buffers fit.
 fn refusal(moves: &[u64], size: u16, i: StateSet, p: StateSet, buf: &[u64], lengths: bool) -> u8
     ensures { λ r. ⌜ Checked (table size (i .words) (p .words) (now (moves .entry))) (now (buf .entry)) lengths r ⌝ }
@@ -124,7 +111,7 @@ fn refusal(moves: &[u64], size: u16, i: StateSet, p: StateSet, buf: &[u64], leng
     if 256 < size {
         return answers::OUT_OF_RANGE;
     }
-    if !sound(moves, size, i, p) {
+    if !moves::sound_table(moves, size, i, p) {
         return answers::NOT_SOUND;
     }
     if !entry::check(moves, size, i, p, buf) {

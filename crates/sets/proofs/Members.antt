@@ -138,15 +138,6 @@ module _ (N : ℕ) (big : N ≤ 256) where
       past : (s : ℕ) → N ≤ s → (not (member x s) || ltb s N) ≡ true → member x s ≡ true → ⊥
       past s a q m = clash (implied (member x s) (ltb s N) q m) (fails (leb-says (suc s) N) (λ l. omega arith))
 
-  pub sound-proper : (x : Set) → Proper N x → sound N x ≡ true
-  unfolding sound
-  sound-proper x h = passes (all-says 256 (λ s. not (member x s) || ltb s N))
-      (λ w. let o = not-implied (member x (w .0)) (ltb (w .0) N) (w .2) in
-      elim (lt-or-ge (w .0) N) [
-        | inl l ↦ clash (passes (leb-says (suc (w .0)) N) (λ m. omega arith)) (o .1)
-        | inr l ↦ clash (o .0) (proper-past h (w .0) l)
-      ])
-
   -- ---- members of what the operations make
   pub member-full : (s : ℕ) → member (full N) s ≡ ltb s N
   unfolding full
@@ -167,10 +158,6 @@ module _ (N : ℕ) (big : N ≤ 256) where
     pub member-minus : member (minus N x y) s ≡ (member x s && not (member y s))
     unfolding minus
     member-minus = member-of N big (λ s. member x s && not (member y s)) s l
-
-  pub member-with : (x : Set) (s u : ℕ) → u < N → member (with N x s) u ≡ (member x u || eqb u s)
-  unfolding with
-  member-with x s u l = member-of N big (λ u. member x u || eqb u s) u l
 
 -- the smallest member is the least
 pub smallest-is : (x : Set) → Least 256 (member x) (smallest x)

@@ -7,7 +7,7 @@ use lib.IntN.{ℤ, pos, negsuc}
 use lib.ListN.{length, getD}
 use Rattle.answers.specs.Answer.{Answer, refused, given}
 use Rattle.answers.specs.Refusals.{noRefusal, outOfRange, badLabel, wrongLength, shortOutput, notSound}
-use Rattle.rules.specs.Table.{Table, leads, soundTable}
+use Rattle.rules.specs.Table.{Table, table, leads, soundTable}
 use Rattle.sets.specs.Search.{all}
 use Rattle.sets.specs.Sets.{Set, member, setOf, inRange}
 use Rattle.turns.specs.Turn.{isAngle}
@@ -20,12 +20,9 @@ pub record Control : Type 0 where
   pub angles : List ℤ
   pub modes : List ℕ
 
--- the table and the control table of a call's arguments
-abbrev pub tableOf : ℕ → Set → Set → List ℕ → Table
-tableOf N starts safe rows = record { size = N; starts = starts; safe = safe; rows = rows }
-
+-- the control table of a call's arguments
 abbrev pub controlFrom : ℕ → Set → Set → List ℕ → List ℤ → List ℕ → Control
-controlFrom N starts safe rows angles modes = record { table = tableOf N starts safe rows; angles = angles; modes = modes }
+controlFrom N starts safe rows angles modes = record { table = table N starts safe rows; angles = angles; modes = modes }
 
 -- ---- from a listing
 -- the set of the numbers listed

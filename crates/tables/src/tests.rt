@@ -3,9 +3,8 @@ ghost use mathlib.Core.Bool.{true};
 ghost use mathlib.Core.Path.{_≡_};
 ghost use Prim.Native.Nat.{_+_, _*_, _<_, _≤_};
 ghost use lib.ListN.{length};
-ghost use Rattle.rules.specs.Table.{soundTable};
 ghost use Rattle.sets.specs.Sets.{count};
-ghost use Rattle.tables.specs.Control.{sized, clearAt, clearPast, labelAt, labelled, tableRefusal, writeRefusal, tableOf, controlFrom};
+ghost use Rattle.tables.specs.Control.{sized, clearAt, clearPast, labelAt, labelled, tableRefusal, writeRefusal, controlFrom};
 ghost use Rattle.tables.specs.Steps.{moveCount};
 use sets::StateSet;
 
@@ -20,19 +19,6 @@ pub fn sized(moves: &[u64], angles: &[i16], modes: &[u8]) -> bool
         return false;
     }
     modes.len() == 256
-}
-
-// Whether the starts, the safe states and all rows are sound.
-fn sound_table(n: u16, starts: StateSet, safe: StateSet, rows: &[u64]) -> bool
-    ensures { λ r. ⌜ r ≡ soundTable (tableOf n (starts .words) (safe .words) (now (rows .entry))) ⌝ }
-{
-    if !starts.sound(n) {
-        return false;
-    }
-    if !safe.sound(n) {
-        return false;
-    }
-    moves::sound_rows(rows, n)
 }
 
 // Whether the angle and the mode at place s are 0, where s is from n up.
@@ -124,7 +110,7 @@ fn table_refusal(
     if 256 < n {
         return answers::OUT_OF_RANGE;
     }
-    if !sound_table(n, starts, safe, moves) {
+    if !moves::sound_table(moves, n, starts, safe) {
         return answers::NOT_SOUND;
     }
     if !clear_past(n as usize, angles, modes) {

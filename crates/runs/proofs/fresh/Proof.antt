@@ -23,7 +23,7 @@ same-length : tie.Need-same-length
 same-length c = simp length-set (omega (arith, c .before .before .write .kept .1 .0, c .before .before .before .before .before .before .before .clear .kept .0, c .before .before .before .before .before .before .before .before .before .before .before .if1 .left))
 
 returns-3 : tie.Need-returns-3
-returns-3 c = fresh-0 _ _ (c .before .before .before .before .before .before .before .before .before .before .before .if1 .left) _ (c .before .before .before .before .before .before .before .before .before .before .full .ensures .refusal) (c .before .before .before .before .before .before .before .before .before .if2 .left) _ (fresh-is _ _ _ _ _ _ _ (search needs) (full-set _ _ (c .before .before .before .before .before .before .before .before .before .before .full .ensures) (range-ok _ _ (c .before .before .before .before .before .before .before .before .before .before .full .ensures .refusal) (c .before .before .before .before .before .before .before .before .before .if2 .left))) (c .before .before .before .before .before .before .before .clear .ensures) (c .before .before .write .ensures) refl refl)
+returns-3 c = fresh-0 _ _ (c .before .before .before .before .before .before .before .before .before .before .before .if1 .left) _ (c .before .before .before .before .before .before .before .before .before .before .full .ensures .refusal) (c .before .before .before .before .before .before .before .before .before .if2 .left) _ (fresh-is _ _ _ _ _ _ (search needs) (full-set _ _ (c .before .before .before .before .before .before .before .before .before .before .full .ensures) (range-ok _ _ (c .before .before .before .before .before .before .before .before .before .before .full .ensures .refusal) (c .before .before .before .before .before .before .before .before .before .if2 .left))) (c .before .before .before .before .before .before .before .clear .ensures) (c .before .before .write .ensures) refl refl)
 
 pub fresh-spec : {M : Type 1} → statement M
 fresh-spec =

@@ -36,19 +36,19 @@ returns-5 c = checked-no (table (c .before .before .before .before .before .befo
 
 returns-6 : tie.Need-returns-6
 unfolding runRefusal
-returns-6 c = checked-no (table (c .before .before .before .before .before .before .before .before .before .args .size) (c .before .before .before .before .before .before .before .before .before .args .i .words) (c .before .before .before .before .before .before .before .before .before .args .p .words) (c .before .before .before .before .before .before .before .before .before .args .moves .now)) (c .before .before .before .before .before .before .before .before .before .args .buf .now) _ _ (rw (eq-eqb _ _ (c .before .before .before .before .before .before .if1 .left), eq-eqb _ _ (c .before .before .before .before .before .if2 .left), not-false (c .before .before .before .before .before .before .before .before .before .args .lengths) (c .before .before .before .before .if3 .left), in-range (c .before .before .before .before .before .before .before .before .before .args .size) (omega arith) (c .before .before .if5 .left), sym (c .before .sound .ensures) ∙ not-true _ (c .if6 .taken))) (λ e. omega arith)
+returns-6 c = checked-no (table (c .before .before .before .before .before .before .before .before .before .args .size) (c .before .before .before .before .before .before .before .before .before .args .i .words) (c .before .before .before .before .before .before .before .before .before .args .p .words) (c .before .before .before .before .before .before .before .before .before .args .moves .now)) (c .before .before .before .before .before .before .before .before .before .args .buf .now) _ _ (rw (eq-eqb _ _ (c .before .before .before .before .before .before .if1 .left), eq-eqb _ _ (c .before .before .before .before .before .if2 .left), not-false (c .before .before .before .before .before .before .before .before .before .args .lengths) (c .before .before .before .before .if3 .left), in-range (c .before .before .before .before .before .before .before .before .before .args .size) (omega arith) (c .before .before .if5 .left), sym (c .before .sound-table .ensures) ∙ not-true _ (c .if6 .taken))) (λ e. omega arith)
 
 check-requires : tie.Need-check-requires
 unfolding runRefusal
-check-requires c κs = (c .before .before .before .before .before .if2 .left, c .before .before .before .before .before .before .if1 .left, good-by (table (c .before .before .before .before .before .before .before .before .before .args .size) (c .before .before .before .before .before .before .before .before .before .args .i .words) (c .before .before .before .before .before .before .before .before .before .args .p .words) (c .before .before .before .before .before .before .before .before .before .args .moves .now)) (c .before .before .if5 .left) (proper-words _ (search needs) (λ j. search needs)) (proper-words _ (search needs) (λ j. search needs)) (sym (c .before .sound .ensures) ∙ not-false _ (c .if6 .left)))
+check-requires c κs = (c .before .before .before .before .before .if2 .left, c .before .before .before .before .before .before .if1 .left, good-by (table (c .before .before .before .before .before .before .before .before .before .args .size) (c .before .before .before .before .before .before .before .before .before .args .i .words) (c .before .before .before .before .before .before .before .before .before .args .p .words) (c .before .before .before .before .before .before .before .before .before .args .moves .now)) (c .before .before .if5 .left) (proper-words _ (search needs) (λ j. search needs)) (proper-words _ (search needs) (λ j. search needs)) (sym (c .before .sound-table .ensures) ∙ not-false _ (c .if6 .left)))
 
 returns-7 : tie.Need-returns-7
 unfolding runRefusal
-returns-7 c = checked-no (table (c .before .before .before .before .before .before .before .before .before .before .before .args .size) (c .before .before .before .before .before .before .before .before .before .before .before .args .i .words) (c .before .before .before .before .before .before .before .before .before .before .before .args .p .words) (c .before .before .before .before .before .before .before .before .before .before .before .args .moves .now)) (c .before .before .before .before .before .before .before .before .before .before .before .args .buf .now) _ _ (rw (eq-eqb _ _ (c .before .before .before .before .before .before .before .before .if1 .left), eq-eqb _ _ (c .before .before .before .before .before .before .before .if2 .left), not-false (c .before .before .before .before .before .before .before .before .before .before .before .args .lengths) (c .before .before .before .before .before .before .if3 .left), in-range (c .before .before .before .before .before .before .before .before .before .before .before .args .size) (omega arith) (c .before .before .before .before .if5 .left), sym (c .before .before .before .sound .ensures) ∙ not-false _ (c .before .before .if6 .left), sym (c .before .check .ensures) ∙ not-true _ (c .if7 .taken))) (λ e. omega arith)
+returns-7 c = checked-no (table (c .before .before .before .before .before .before .before .before .before .before .before .args .size) (c .before .before .before .before .before .before .before .before .before .before .before .args .i .words) (c .before .before .before .before .before .before .before .before .before .before .before .args .p .words) (c .before .before .before .before .before .before .before .before .before .before .before .args .moves .now)) (c .before .before .before .before .before .before .before .before .before .before .before .args .buf .now) _ _ (rw (eq-eqb _ _ (c .before .before .before .before .before .before .before .before .if1 .left), eq-eqb _ _ (c .before .before .before .before .before .before .before .if2 .left), not-false (c .before .before .before .before .before .before .before .before .before .before .before .args .lengths) (c .before .before .before .before .before .before .if3 .left), in-range (c .before .before .before .before .before .before .before .before .before .before .before .args .size) (omega arith) (c .before .before .before .before .if5 .left), sym (c .before .before .before .sound-table .ensures) ∙ not-false _ (c .before .before .if6 .left), sym (c .before .check .ensures) ∙ not-true _ (c .if7 .taken))) (λ e. omega arith)
 
 returns-8 : tie.Need-returns-8
 unfolding runRefusal
-returns-8 c = record { is = rw (eq-eqb _ _ (c .before .before .before .before .before .before .before .before .if1 .left), eq-eqb _ _ (c .before .before .before .before .before .before .before .if2 .left), not-false (c .before .before .before .before .before .before .before .before .before .before .before .args .lengths) (c .before .before .before .before .before .before .if3 .left), in-range (c .before .before .before .before .before .before .before .before .before .before .before .args .size) (omega arith) (c .before .before .before .before .if5 .left), sym (c .before .before .before .sound .ensures) ∙ not-false _ (c .before .before .if6 .left), sym (c .before .check .ensures) ∙ not-false _ (c .if7 .left)); rows = λ e. c .before .before .before .before .before .before .before .if2 .left; long = λ e. c .before .before .before .before .before .before .before .before .if1 .left; fits = λ e. not-false (c .before .before .before .before .before .before .before .before .before .before .before .args .lengths) (c .before .before .before .before .before .before .if3 .left); good = λ e. good-by (table (c .before .before .before .before .before .before .before .before .before .before .before .args .size) (c .before .before .before .before .before .before .before .before .before .before .before .args .i .words) (c .before .before .before .before .before .before .before .before .before .before .before .args .p .words) (c .before .before .before .before .before .before .before .before .before .before .before .args .moves .now)) (c .before .before .before .before .if5 .left) (proper-words _ (search needs) (λ j. search needs)) (proper-words _ (search needs) (λ j. search needs)) (sym (c .before .before .before .sound .ensures) ∙ not-false _ (c .before .before .if6 .left)); fit = λ e. fit-by (table (c .before .before .before .before .before .before .before .before .before .before .before .args .size) (c .before .before .before .before .before .before .before .before .before .before .before .args .i .words) (c .before .before .before .before .before .before .before .before .before .before .before .args .p .words) (c .before .before .before .before .before .before .before .before .before .before .before .args .moves .now)) (c .before .before .before .before .if5 .left) (c .before .before .before .before .before .before .before .before .before .before .before .args .buf .now) (c .before .before .before .before .before .before .before .before .if1 .left) (λ i. c .before .before .before .before .before .before .before .before .before .shared-slice-known2 .given i .fits) (sym (c .before .check .ensures) ∙ not-false _ (c .if7 .left)) }
+returns-8 c = record { is = rw (eq-eqb _ _ (c .before .before .before .before .before .before .before .before .if1 .left), eq-eqb _ _ (c .before .before .before .before .before .before .before .if2 .left), not-false (c .before .before .before .before .before .before .before .before .before .before .before .args .lengths) (c .before .before .before .before .before .before .if3 .left), in-range (c .before .before .before .before .before .before .before .before .before .before .before .args .size) (omega arith) (c .before .before .before .before .if5 .left), sym (c .before .before .before .sound-table .ensures) ∙ not-false _ (c .before .before .if6 .left), sym (c .before .check .ensures) ∙ not-false _ (c .if7 .left)); rows = λ e. c .before .before .before .before .before .before .before .if2 .left; long = λ e. c .before .before .before .before .before .before .before .before .if1 .left; fits = λ e. not-false (c .before .before .before .before .before .before .before .before .before .before .before .args .lengths) (c .before .before .before .before .before .before .if3 .left); good = λ e. good-by (table (c .before .before .before .before .before .before .before .before .before .before .before .args .size) (c .before .before .before .before .before .before .before .before .before .before .before .args .i .words) (c .before .before .before .before .before .before .before .before .before .before .before .args .p .words) (c .before .before .before .before .before .before .before .before .before .before .before .args .moves .now)) (c .before .before .before .before .if5 .left) (proper-words _ (search needs) (λ j. search needs)) (proper-words _ (search needs) (λ j. search needs)) (sym (c .before .before .before .sound-table .ensures) ∙ not-false _ (c .before .before .if6 .left)); fit = λ e. fit-by (table (c .before .before .before .before .before .before .before .before .before .before .before .args .size) (c .before .before .before .before .before .before .before .before .before .before .before .args .i .words) (c .before .before .before .before .before .before .before .before .before .before .before .args .p .words) (c .before .before .before .before .before .before .before .before .before .before .before .args .moves .now)) (c .before .before .before .before .if5 .left) (c .before .before .before .before .before .before .before .before .before .before .before .args .buf .now) (c .before .before .before .before .before .before .before .before .if1 .left) (λ i. c .before .before .before .before .before .before .before .before .before .shared-slice-known2 .given i .fits) (sym (c .before .check .ensures) ∙ not-false _ (c .if7 .left)) }
 
 pub refusal-spec : {M : Type 1} → statement M
 refusal-spec =

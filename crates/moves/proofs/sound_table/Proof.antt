@@ -2,8 +2,8 @@ use mathlib.Core.Path.{sym, _∙_}
 use borrow.Author.Needs.{needs}
 use Rattle.rules.specs.Table.{soundTable}
 use Rattle.sets.proofs.Tests.{not-true, not-false}
-use Rattle.runs.proofs.sound.Statement.{statement}
-use Rattle.runs.proofs.sound.Tie as tie
+use Rattle.moves.proofs.sound_table.Statement.{statement}
+use Rattle.moves.proofs.sound_table.Tie as tie
 
 returns : tie.Need-returns
 unfolding soundTable
@@ -17,8 +17,8 @@ returns-3 : tie.Need-returns-3
 unfolding soundTable
 returns-3 c = c .sound-rows .ensures ∙ rw (sym (c .before .before .before .before .sound .ensures) ∙ not-false _ (c .before .before .before .if1 .left), sym (c .before .before .sound2 .ensures) ∙ not-false _ (c .before .if2 .left))
 
-pub sound-spec : {M : Type 1} → statement M
-sound-spec =
+pub sound-table-spec : {M : Type 1} → statement M
+sound-table-spec =
     tie.close
     (tie.spec
     (λ c κs. search needs)
