@@ -19,7 +19,6 @@ use Rattle.rules.specs.Rules.{fresh, Result, reached}
 use Rattle.rules.specs.Runs as rules
 use Rattle.rules.specs.Runs.{run, walk}
 use Rattle.rules.specs.Table.{Table}
-use Rattle.runs.proofs.Demands.{take-sets}
 use Rattle.runs.specs.Hints.{hintsFrom, hintsAt}
 use Rattle.runs.specs.Promises.{freshRefusal, FreshPromise, runRefusal, lengthsOk, runAnswer, ran, setAfter, walkAfter, Answered, RunPromise}
 use Rattle.runs.specs.Said.{safe-with, reached-with, said}
@@ -28,7 +27,7 @@ use Rattle.runs.specs.declared.Outcome.the-variants.{Safe, Reached, Unfinished,
 use Rattle.runs.specs.declared.RunAnswer.{RunAnswer}
 use Rattle.sets.proofs.Range.{range-says}
 use Rattle.sets.proofs.Tests.{passed}
-use Rattle.sets.proofs.Words.{four-of}
+use Rattle.sets.proofs.Words.{four-of, take-sets}
 use Rattle.sets.specs.Sets.{Set, quad, sizeRefusal}
 use Rattle.tables.specs.Control.{Control}
 use Rattle.listings.specs.Listing.{reachedListing, reachedWanted}

@@ -6,7 +6,7 @@ use mathlib.Core.List.{List}
 use mathlib.Core.Logic.{inl, inr, _≢_}
 use mathlib.Core.Path.{_≡_, refl, sym, ap, _∙_}
 use lib.ListN.{length, getD}
-use Rattle.rules.proofs.Adjoint.{to-g, of-g, f-mono, g-mono}
+use Rattle.rules.proofs.Adjoint.{f-mono, g-mono, forward-backward}
 use Rattle.rules.proofs.Budget.{run-result, run-keeps, run-most, budget, needs-more}
 use Rattle.rules.proofs.Ends.{run-none, run-done, enough}
 use Rattle.rules.proofs.Entry.{entry-inv, inv-entry}
@@ -46,8 +46,8 @@ module _ (t : Table) (big : t .size ≤ 256) where
       }
     where
       go : (X Y : Set) {b : Bool} → Says (Within (t .size) X (g t Y)) (Beyond (t .size) X (g t Y)) b → within (t .size) (f t X) Y ≡ b
-      go X Y (pass h) = within-true (t .size) (of-g t big X Y h)
-      go X Y (fail w) = within-false (t .size) (not-within (t .size) (λ h. not-both (t .size) (to-g t big X Y h) w))
+      go X Y (pass h) = within-true (t .size) (forward-backward t big X Y .1 h)
+      go X Y (fail w) = within-false (t .size) (not-within (t .size) (λ h. not-both (t .size) (forward-backward t big X Y .0 h) w))
 
   -- x_1 of a fresh run is full
   fresh-up : (w : Set) (j : ℕ) → suc j < 2 → Within (t .size) w ((fresh t) .x (suc j))
@@ -164,6 +164,7 @@ module _ (t : Table) (big : t .size ≤ 256) where
         record {
           ends = ends-by s v b hs;
           in-bound = rules-bound s v b hs;
+          in-budget = run-most t big b hs s v;
           same = λ s′ b′ hs′ p′. same-verdict s s′ v (entry-inv t s′ p′) b b′ hs hs′;
           fewest = λ e m u w d. elim (lt-or-ge m ((run t b hs s) .state .n - 1)) [
             | inl l ↦ absurd (clash (none-shorter t big _ (kept-state s v b hs) w (omega (arith, (kept-state s v b hs) .two))) (d .unsafe))

@@ -9,14 +9,11 @@ use borrow.Author.Tests.{le-ltb, lt-leb, ltb-true}
 use lib.Dec.{ltb, leb}
 use lib.ListN.{length, getD}
 use lib.Seq.{ext-getD}
-use Rattle.rules.proofs.Budget.{run-keeps}
 use Rattle.rules.proofs.Buffer.{at-x, at-y, encode-n, encode-k, encode-length, quad-x, quad-y, decode-encode}
 use Rattle.rules.proofs.Entry.{Each, each-true, true-each, all-true, ranges-say, entry-inv, inv-entry}
 use Rattle.rules.proofs.Invariant.{Invariant}
-use Rattle.rules.proofs.Normal.{Words, run-normal}
 use Rattle.rules.specs.Buffer.{encode, decode, keptX, keptY, conditions, entryCheck, Normal}
 use Rattle.rules.specs.Rules.{State}
-use Rattle.rules.specs.Runs.{run}
 use Rattle.rules.specs.Table.{Table}
 use Rattle.sets.proofs.Members.{proper-four, proper-empty, proper-past, proper-sound}
 use Rattle.sets.proofs.Search.{all-says}

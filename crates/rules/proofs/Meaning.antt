@@ -4,7 +4,7 @@ use native.Mathlib.Nat.{zero-add}
 use native.Mathlib.Omega.{arith}
 use mathlib.Core.Bool.{Bool, true, false, not, _&&_, false≢true}
 use mathlib.Core.List.{List}
-use mathlib.Core.Logic.{inl, inr, _≢_}
+use mathlib.Core.Logic.{_≢_}
 use mathlib.Core.Option.{Option, none, some}
 use mathlib.Core.Path.{_≡_, refl, ap}
 use lib.Dec.{eqb}
@@ -17,7 +17,7 @@ use Rattle.rules.specs.Runs.{orZero, firstState, nextState, walkFrom, wa
 use Rattle.rules.specs.Table.{leads, g, Table}
 use Rattle.rules.specs.Walks.{move, Walked, Bad, BadReached, LeadsToBad, RealWalk, Closed, start, arrived, onward}
 use Rattle.sets.proofs.Search.{least-is, Least, here, nowhere}
-use Rattle.sets.proofs.Tests.{passed, clash, never, and-true, not-true, not-false, eqb-says, lt-or-ge}
+use Rattle.sets.proofs.Tests.{passed, clash, never, and-true, not-true, not-false, eqb-says}
 use Rattle.sets.proofs.Within.{is-within, is-beyond, within-trans, Within, Beyond}
 use Rattle.sets.specs.Search.{least}
 use Rattle.sets.specs.Sets.{Set, member, within}

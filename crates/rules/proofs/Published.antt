@@ -1,5 +1,5 @@
 -- The rules that compute are the published ones: each step fired is one of the relation's, and each of the relation's is due.
-use Prim.Native.Nat.{ℕ, suc, _+_, _≤_}
+use Prim.Native.Nat.{ℕ, _≤_}
 use native.Mathlib.Omega.{arith}
 use mathlib.Core.Bool.{Bool, true, false, _||_, or-true}
 use mathlib.Core.List.{List}
@@ -9,7 +9,8 @@ use Rattle.rules.proofs.Ends.{opened, choose-ok, run-ind}
 use Rattle.rules.proofs.Invariant.{Open, open-up, open-start, Invariant}
 use Rattle.rules.proofs.Keep.{due-is, Ok, allowed-ok, ok-allowed, Due, isUnfold, isCandidate, isDecide, isConflict}
 use Rattle.rules.proofs.Meaning.{safe-at, never-noRoom, reached-at}
-use Rattle.rules.specs.Published.{_⊑_, _⋢_, Fires, ConclusiveX, ConclusiveY, Step, Steps, by-unfold, by-candidate, by-decide, by-conflict, no-step, one-more}
+use Rattle.rules.specs.Demands.{Steps, no-step, one-more}
+use Rattle.rules.specs.Published.{_⊑_, _⋢_, Fires, ConclusiveX, ConclusiveY, Step, by-unfold, by-candidate, by-decide, by-conflict}
 use Rattle.rules.specs.Rules.{noRoom, conclusion, due, allowed, fire, State, Result, Rule, safe, reached, unfinished}
 use Rattle.rules.specs.Runs.{stop, after, next, run}
 use Rattle.rules.specs.Table.{Table}
@@ -116,9 +117,9 @@ module _ (t : Table) where
           | inr h ↦ elim (not-open s h) [ inl c ↦ absurd (p .open-x c) | inr c ↦ absurd (p .open-y c) ]
         ]
 
-    -- a run is so many steps of the published rules
-    pub run-steps : (b : ℕ) (hs : List Set) (s : State) → Invariant t s → Steps t ((run t b hs s) .rules) s ((run t b hs s) .state)
+    -- a run is so many steps of the published rules, with the choices that its hints make
+    pub run-steps : (b : ℕ) (hs : List Set) (s : State) → Invariant t s
+        → Steps t ((run t b hs s) .rules) ((run t b hs s) .taken) ((run t b hs s) .used) hs s ((run t b hs s) .left) ((run t b hs s) .state)
     unfolding stop after next
-    run-steps = run-ind t big (λ b hs s o. Steps t (o .rules) s (o .state)) (λ b hs s v d. no-step)
-        (λ b hs s o v p q. let e : suc (o .rules) ≡ 1 + o .rules = omega arith in
-        rw e at (one-more (is-step s _ v p (ok-allowed t (due t s) s _ (choose-ok t big hs s v p))) q))
+    run-steps = run-ind t big (λ b hs s o. Steps t (o .rules) (o .taken) (o .used) hs s (o .left) (o .state)) (λ b hs s v d. no-step)
+        (λ b hs s o v p q. one-more (is-step s _ v p (ok-allowed t (due t s) s _ (choose-ok t big hs s v p))) q)

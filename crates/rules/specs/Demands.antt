@@ -6,9 +6,9 @@ use mathlib.Core.Logic.{_↔_, _≢_}
 use mathlib.Core.Path.{_≡_}
 use lib.ListN.{length}
 use Rattle.rules.specs.Buffer.{encode, each, conditions, entryCheck, Normal}
-use Rattle.rules.specs.Published.{Step, Steps}
+use Rattle.rules.specs.Published.{Step}
 use Rattle.rules.specs.Rules.{fresh, conclusion, due, allowed, house, fire, State, Result, Rule, safe, reached, unfinished}
-use Rattle.rules.specs.Runs.{andThen, run, walk, Outcome}
+use Rattle.rules.specs.Runs.{andThen, choose, run, walk, Outcome}
 use Rattle.rules.specs.Table.{f, g, Table}
 use Rattle.rules.specs.Walks.{Walked, Bad, BadReached, RealWalk, Closed}
 use Rattle.sets.specs.Sets.{Set, within, Proper}
@@ -53,14 +53,23 @@ module _ (t : Table) where
     pub step-is : (s : State) (rule : Rule) (z : Set) (s′ : State) → Passes s → Step t s rule z s′
         → (conclusion t s ≡ unfinished) × (rule ≡ due t s) × (allowed t rule s z ≡ true) × (s′ ≡ fire t rule s z)
 
+  -- so many steps of the published rules, each with the set that the hints at hand give it (`choose` of specs/Runs.antt);
+  -- so many hints taken and so many used, the hints before and the hints left
+  pub data Steps : ℕ → ℕ → ℕ → List Set → State → List Set → State → Type 0 where
+    no-step : {hints : List Set} {s : State} → Steps 0 0 0 hints s hints s
+    one-more : {m taken used : ℕ} {hints left : List Set} {s s′ s″ : State} {rule : Rule}
+        → Step t s rule ((choose t hints s) .set) s′
+        → Steps m taken used ((choose t hints s) .left) s′ left s″
+        → Steps (1 + m) ((choose t hints s) .taken + taken) ((choose t hints s) .used + used) hints s left s″
+
   module _ (s : State) (b : ℕ) (hints : List Set) where
     abbrev pub after-run : Outcome
     after-run = run t b hints s
 
     -- demand 2
     pub record Demand2 : Type 0 where
-      -- the rules fired are those published, and as many as reported
-      pub rules-published : Steps t (after-run .rules) s (after-run .state)
+      -- the rules fired are those published, with the choices that the hints make, and the numbers are as reported
+      pub rules-published : Steps (after-run .rules) (after-run .taken) (after-run .used) hints s (after-run .left) (after-run .state)
       -- safe: the reason holds every start, no bad state, and every move out of its own members
       pub safe-reason : (j : ℕ) → after-run .result ≡ safe j → Closed t (after-run .state .x j)
       -- reached: it shows a real walk
@@ -73,6 +82,8 @@ module _ (t : Table) where
       -- it ends if the budget allows 2·N·N + 2·N rules, and never fires more
       pub ends : bound (t .size) ≤ b → Ended (after-run .result)
       pub in-bound : after-run .rules ≤ bound (t .size)
+      -- it fires at most the budget's number of rules
+      pub in-budget : after-run .rules ≤ b
       -- the verdict of a run that ends is the same for all hints, budgets and runs that pass the entry check
       pub same : (s′ : State) (b′ : ℕ) (hints′ : List Set) → Passes s′ → Ended (after-run .result) → Ended ((run t b′ hints′ s′) .result)
           → Same (after-run .result) ((run t b′ hints′ s′) .result)

@@ -1,5 +1,5 @@
 -- The rules as the slide of document 001 prints them, a constructor for each; to be read beside the slide.
-use Prim.Native.Nat.{ℕ, zero, suc, _+_, _-_, _<_}
+use Prim.Native.Nat.{ℕ, suc, _+_, _-_, _<_}
 use mathlib.Core.Bool.{true}
 use mathlib.Core.Path.{_≡_}
 use Rattle.sets.specs.Sets.{Set, member, full, empty, meet, join}
@@ -68,8 +68,3 @@ module _ (t : Table) where
     pub open-x : ConclusiveX s → ⊥
     pub open-y : ConclusiveY s → ⊥
     pub fires : Fires s z rule s′
-
-  -- so many steps
-  pub data Steps : ℕ → State → State → Type 0 where
-    no-step : {s : State} → Steps zero s s
-    one-more : {m : ℕ} {s s′ s″ : State} {rule : Rule} {z : Set} → Step s rule z s′ → Steps m s′ s″ → Steps (suc m) s s″

@@ -11,7 +11,6 @@ use lib.Seq.{sets, ext-getD, getD-set-same, getD-set-other}
 use Rattle.rules.proofs.Buffer.{at-x, at-y, encode-n, encode-k, encode-length}
 use Rattle.rules.specs.Buffer.{encode}
 use Rattle.rules.specs.Rules.{put, freshOf}
-use Rattle.rules.specs.Table.{table}
 use Rattle.runs.proofs.Stores.{set-n, set-k, place, put-x, Place, first, second, inX, inY}
 use Rattle.runs.specs.Promises.{freshRefusal, FreshPromise}
 use Rattle.runs.specs.Ready.{nothing}

@@ -1,27 +1,34 @@
--- Demands 2 and 3 of the code's own promise, from the theorems of the rules.
-use Prim.Native.Nat.{ℕ, _+_, _-_, _≤_}
+-- Demands 2 and 3 of the code's own promise, from the theorems of the rules; what a run leaves can be lent again.
+use Prim.Native.Nat.{ℕ, _+_, _-_, _*_, _^_, _≤_, _<_, _/_, _%_}
+use native.Mathlib.Nat.{zero-add, add-assoc}
 use native.Mathlib.Omega.{arith}
-use mathlib.Core.Bool.{true}
-use mathlib.Core.List.{List}
+use mathlib.Core.Bool.{Bool, true, false}
+use mathlib.Core.List.{List, _++_}
 use mathlib.Core.Logic.{inl, inr}
 use mathlib.Core.Path.{_≡_, refl, sym, ap, _∙_}
 use borrow.Author.Tests.{eq-eqb}
-use lib.ListN.{length, getD, drop, take, length-take}
-use lib.Seq.{sets, take-at, sets-eq}
+use lib.Dec.{eqb}
+use lib.ListN.{length, getD, drop, take, length-take, length-drop, List·getD-eq-default}
+use lib.Seq.{sets, drop-at, getD-drop, sets-eq, length-sets}
 use Rattle.answers.specs.Answer.{given}
 use Rattle.rules.proofs.Budget.{run-result}
+use Rattle.rules.proofs.Buffer.{at-x, at-y, encode-n, encode-k, encode-length}
 use Rattle.rules.proofs.Demands.{demand-2, demand-3}
+use Rattle.rules.proofs.Ends.{run-ind}
 use Rattle.rules.proofs.Entry.{inv-entry}
-use Rattle.rules.proofs.Held.{fit-by, Fit}
+use Rattle.rules.proofs.Held.{fit-by, kept-accepts, Fit}
+use Rattle.rules.proofs.Invariant.{Invariant}
 use Rattle.rules.proofs.Meaning.{real-walked, walk-length}
-use Rattle.rules.specs.Buffer.{encode, decode}
+use Rattle.rules.specs.Buffer.{encode, decode, entryCheck, Normal}
 use Rattle.rules.specs.Demands.{Passes, Demand2, Demand3, ended-safe, ended-reached}
-use Rattle.rules.specs.Rules.{noRoom, conclusion, State, Result, safe, reached, unfinished}
-use Rattle.rules.specs.Runs.{run, walk, Outcome}
+use Rattle.rules.specs.Rules.{noRoom, conclusion, due, house, State, Result, safe, reached, unfinished}
+use Rattle.rules.specs.Runs.{pick, stop, asks, offered, after, willDo, choose, run, walk, Outcome}
 use Rattle.rules.specs.Table.{Table}
 use Rattle.rules.specs.Walks.{BadReached}
-use Rattle.runs.proofs.Answers.{left-fit, left-back, ran-all, lengths-walk}
-use Rattle.runs.proofs.Reading.{good-by}
+use Rattle.runs.proofs.Answers.{left-fit, left-back, ran-all, lengths-set, lengths-walk}
+use Rattle.runs.proofs.Reading.{good-by, Words64}
+use Rattle.runs.proofs.Steps.{hints-none, hints-same, hints-more}
+use Rattle.runs.proofs.Stores.{place, Place, first, second, inX, inY}
 use Rattle.runs.proofs.Walks.{reached-short}
 use Rattle.runs.specs.Demands.{SaysSafe, SaysReached, Ends, Lent, RunDemand2, RunDemand3, SameVerdict}
 use Rattle.runs.specs.Hints.{hintsAt}
@@ -29,8 +36,11 @@ use Rattle.runs.specs.Promises.{runRefusal, lengthsOk, runAnswer, ran, s
 use Rattle.runs.specs.Ready.{Ended, Good}
 use Rattle.runs.specs.Said.{said, safe-with, reached-with}
 use Rattle.runs.specs.declared.RunAnswer.{RunAnswer}
+use Rattle.sets.proofs.Members.{proper-length, proper-word, proper-up}
 use Rattle.sets.proofs.Range.{range-says}
-use Rattle.sets.proofs.Tests.{passed}
+use Rattle.sets.proofs.Tests.{passed, and-true, eqb-says, lt-or-ge}
+use Rattle.sets.proofs.Words.{take-sets}
+use Rattle.sets.specs.Sets.{Set, quad}
 use Rattle.rules.specs.Runs as runs
 use Rattle.rules.specs.Demands as rules
 use Rattle.runs.specs.declared.RunAnswer as answer
@@ -57,9 +67,88 @@ n-of : (c : List ℕ) → getD c 0 0 ≡ (decode c) .n
 unfolding decode
 n-of c = refl
 
--- a walk written over the first places
-pub take-sets : (w l : List ℕ) → length w ≤ length l → take (length w) (sets l 0 w) ≡ w
-take-sets w l h = rw (sets-eq w l 0 (omega arith)) (take-at w (drop (0 + length w) l) (length w) refl)
+-- ---- the hints that remain: those after the hints taken
+pick-left : (c : Bool) (ws : List ℕ) (a : ℕ) (will : Set → Bool) (h : Set)
+    → (pick c (hintsAt ws a) will h) .left ≡ hintsAt ws (a + (pick c (hintsAt ws a) will h) .taken)
+unfolding pick offered
+pick-left false ws a will h = hints-same ws a
+pick-left true ws a will h = elim (lt-or-ge a (length ws / 4)) [
+  | inl l ↦ rw (hints-more ws a l) (go (will (quad ws (4 * a))))
+  | inr l ↦ rw (hints-none ws a l) (sym (hints-none ws (a + 0) (omega arith)))
+]
+  where
+    go : (b : Bool) → (offered b (quad ws (4 * a)) h (hintsAt ws (a + 1))) .left ≡ hintsAt ws (a + (offered b (quad ws (4 * a)) h (hintsAt ws (a + 1))) .taken)
+    go true = refl
+    go false = refl
+
+module _ (t : Table) (big : t .size ≤ 256) (ws : List ℕ) where
+  pub run-left : (b : ℕ) (hs : List Set) (s : State) → Invariant t s → (a : ℕ) → hs ≡ hintsAt ws a → (run t b hs s) .left ≡ hintsAt ws (a + (run t b hs s) .taken)
+  unfolding stop after choose
+  run-left = run-ind t big (λ b hs s o. (a : ℕ) → hs ≡ hintsAt ws a → o .left ≡ hintsAt ws (a + o .taken))
+      (λ b hs s v d a e. e ∙ hints-same ws a)
+      (λ b hs s o v p q a e.
+      let l = rw (← e) at (pick-left (asks (due t s)) ws a (willDo t s) (house t (due t s) s)) in
+      q (a + (choose t hs s) .taken) l ∙ ap (λ k. hintsAt ws k) (add-assoc a ((choose t hs s) .taken) (o .taken)))
+
+-- the lengths fit again, with the hints from number a on
+lengths-drop : (a : ℕ) (hints set walk set₂ walk₂ : List ℕ) → lengthsOk hints set walk ≡ true → length set₂ ≡ 4 → length walk₂ ≡ 256
+    → lengthsOk (drop (4 * a) hints) set₂ walk₂ ≡ true
+unfolding lengthsOk
+lengths-drop a hints set walk set₂ walk₂ e e₁ e₂ =
+    let h : length hints % 4 ≡ 0 = passed (eqb-says (length hints % 4) 0) (and-true (eqb (length hints % 4) 0) _ e .0) in
+    let h′ : length (drop (4 * a) hints) % 4 ≡ 0 = rw length-drop (omega arith) in
+    rw (eq-eqb (length (drop (4 * a) hints) % 4) 0 h′, eq-eqb (length set₂) 4 e₁, eq-eqb (length walk₂) 256 e₂)
+
+-- ---- what a run writes
+-- every word of a state's buffer has 64 bits
+encode-words : (t : Table) → t .size ≤ 256 → (s : State) → Invariant t s → Normal t s → Words64 (encode s)
+encode-words t big s v m i = elim (lt-or-ge i 2066) [
+  | inl l ↦ at i (place i l)
+  | inr l ↦ rw (List·getD-eq-default (encode s) 0 {n = i} (omega (arith, encode-length s))) (omega arith)
+]
+  where
+    at : (i : ℕ) → Place i → getD (encode s) i 0 < 2 ^ 64
+    at i first = rw (encode-n s) (omega (arith, v .cap))
+    at i second = rw (encode-k s) (omega (arith, v .cap, v .le))
+    at i (inX j c w lj lc e) = rw (at-x s j c i lj lc e) (proper-word (s .x j) (proper-up (t .size) big (m .proper-x j)) c lc)
+    at i (inY j c w lj lc e) = rw (at-y s j c i lj lc e) (proper-word (s .y j) (proper-up (t .size) big (m .proper-y j)) c lc)
+
+-- a set and a walk keep their lengths
+set-length : (r : Result) (s : State) (l : List ℕ) → length l ≡ 4 → ((j : ℕ) → length (s .x j) ≡ 4) → length (setAfter 0 r s l) ≡ 4
+unfolding setAfter
+set-length (safe j) s l e h = h j
+set-length reached s l e h = e
+set-length unfinished s l e h = e
+set-length noRoom s l e h = e
+
+walk-long : (t : Table) (r : Result) (s : State) (l : List ℕ) → length (walkAfter t 0 r s l) ≡ length l
+unfolding walkAfter
+walk-long t (safe j) s l = refl
+walk-long t reached s l = length-sets l 0 (walk t s)
+walk-long t unfinished s l = refl
+walk-long t noRoom s l = refl
+
+-- a set or a walk written twice is as if written once
+pub set-twice : (r : Result) (s : State) (l : List ℕ) → setAfter 0 r s (setAfter 0 r s l) ≡ setAfter 0 r s l
+unfolding setAfter
+set-twice (safe j) s l = refl
+set-twice reached s l = refl
+set-twice unfinished s l = refl
+set-twice noRoom s l = refl
+
+sets-twice : (w l : List ℕ) → length w ≤ length l → sets (sets l 0 w) 0 w ≡ sets l 0 w
+sets-twice w l h =
+    sets-eq w (sets l 0 w) 0 (rw length-sets (omega arith))
+    ∙ ap (λ x. w ++ x) (ap (drop (0 + length w)) (sets-eq w l 0 (omega arith)) ∙ drop-at w (drop (0 + length w) l) (0 + length w) (sym (zero-add (length w))))
+    ∙ sym (sets-eq w l 0 (omega arith))
+
+pub walk-twice : (t : Table) (r : Result) (s : State) (l : List ℕ) → (r ≡ reached → length (walk t s) ≤ length l)
+    → walkAfter t 0 r s (walkAfter t 0 r s l) ≡ walkAfter t 0 r s l
+unfolding walkAfter
+walk-twice t (safe j) s l h = refl
+walk-twice t reached s l h = sets-twice (walk t s) l (h refl)
+walk-twice t unfinished s l h = refl
+walk-twice t noRoom s l h = refl
 
 module _ (t : Table) (hints b set walk : List ℕ) (l : Lent t hints b set walk) where
   pub big : t .size ≤ 256
@@ -107,6 +196,9 @@ module _ (t : Table) (hints b set walk : List ℕ) (l : Lent t hints b set walk)
     pub left-state : decode b′ ≡ o .state
     left-state = left-back t good b fit budget hints (l .hint-words) b′ left-buffer
 
+    pub left-hints : o .left ≡ hintsAt hints (o .taken)
+    left-hints = run-left t big hints budget (hintsAt hints 0) (decode b) (fit .inv) 0 refl ∙ ap (λ a. hintsAt hints a) (zero-add (o .taken))
+
     safe-at-j : (j : ℕ) → said (r .outcome) ≡ given (safe-with j) → o .result ≡ safe j
     safe-at-j j e = says-safe (o .result) (o .state) j (sym told ∙ e)
 
@@ -139,25 +231,66 @@ module _ (t : Table) (hints b set walk : List ℕ) (l : Lent t hints b set walk)
     unfolding walkAfter
     walk-written e = rw (not-refused, e) at (p .walk-is)
 
+    left-fits : Fit t b′
+    left-fits = left-fit t good b fit budget hints (l .hint-words) b′ left-buffer
+
     few : o .result ≡ reached → o .state .n ≤ 257
     few e =
-        let h : getD b′ 0 0 ≤ 257 = reached-short t good b′ (left-fit t good b fit budget hints (l .hint-words) b′ left-buffer) (rw left-state (sym result-is-conclusion ∙ e)) in
+        let h : getD b′ 0 0 ≤ 257 = reached-short t good b′ left-fits (rw left-state (sym result-is-conclusion ∙ e)) in
         rw (ap (λ s. s .n) left-state) at (rw (n-of b′) at h)
+
+    -- the walk has room for the states of a reached run
+    pub walk-room : o .result ≡ reached → length (runs.walk t (o .state)) ≤ length walk
+    walk-room e = omega (arith, few e, walk-length t big (o .state), lengths-walk hints set walk (l .lengths))
 
     shown : (m : ℕ) → SaysReached r m → take m walk′ ≡ runs.walk t (o .state)
     shown m e =
         let q = reached-in m e in
-        let w = walk-length t big (o .state) in
-        rw (q .1, walk-written (q .0), ← w) (take-sets (runs.walk t (o .state)) walk (omega (arith, few (q .0), lengths-walk hints set walk (l .lengths))))
+        rw (q .1, walk-written (q .0), ← (walk-length t big (o .state))) (take-sets (runs.walk t (o .state)) walk (walk-room (q .0)))
+
+    -- the set and the walk that a run leaves, and their lengths
+    pub set-left : set′ ≡ setAfter 0 (o .result) (o .state) set
+    set-left = rw not-refused at (p .set-is)
+
+    pub walk-left : walk′ ≡ walkAfter t 0 (o .result) (o .state) walk
+    walk-left = rw not-refused at (p .walk-is)
+
+    pub set-four : length set′ ≡ 4
+    set-four =
+        rw set-left (set-length (o .result) (o .state) set (lengths-set hints set walk (l .lengths))
+        (λ j. proper-length (t .size) (o .state .x j) (rw (ap (λ s. s .x j) left-state) at (left-fits .held .norm .proper-x j))))
+
+    pub walk-256 : length walk′ ≡ 256
+    walk-256 = rw walk-left (walk-long t (o .result) (o .state) walk ∙ lengths-walk hints set walk (l .lengths))
+
+    -- what a run leaves passes the entry check again
+    pub run-enters : entryCheck t b′ ≡ true
+    run-enters = rw (← (left-fits .held .same)) (kept-accepts t big (decode b′) (left-fits .inv) (left-fits .held .norm))
+
+    -- .. so it can be lent again, with the hints from number a on
+    pub lent-again : (a : ℕ) (set₂ walk₂ : List ℕ) → length set₂ ≡ 4 → length walk₂ ≡ 256 → Lent t (drop (4 * a) hints) b′ set₂ walk₂
+    lent-again a set₂ walk₂ e₁ e₂ =
+        record {
+          starts = l .starts;
+          safe = l .safe;
+          range = l .range;
+          rows = l .rows;
+          sound = l .sound;
+          long = rw (← (left-fits .held .same)) (encode-length (decode b′));
+          words = rw (← (left-fits .held .same)) (encode-words t big (decode b′) (left-fits .inv) (left-fits .held .norm));
+          entry = run-enters;
+          hint-words = λ i. rw getD-drop (l .hint-words (4 * a + i));
+          lengths = lengths-drop a hints set walk set₂ walk₂ (l .lengths) e₁ e₂;
+        }
 
     safe-of : (j : ℕ) × (o .result ≡ safe j) → SaysSafe r
     unfolding runAnswer
     safe-of w = (w .0, rw (w .1) at told)
 
-    pub run-demand-2 : RunDemand2 t b b′ set′ walk′ r
+    pub run-demand-2 : RunDemand2 t hints b b′ set′ walk′ r
     run-demand-2 =
         record {
-          rules-published = rw (fired, left-state) (two .rules-published);
+          rules-published = rw (fired, took, uses, left-state, ← left-hints) (two .rules-published);
           safe-reason = λ w. rw (set-written (w .0) (safe-at-j (w .0) (w .1))) (two .safe-reason (w .0) (safe-at-j (w .0) (w .1)));
           reached-walk = λ m e. rw (shown m e) (two .reached-walk (reached-in m e .0));
           exactly = λ e. (λ w. two .exactly (of-ends e) .0 (w .0, safe-at-j (w .0) (w .1)), λ h. safe-of (two .exactly (of-ends e) .1 h));
@@ -168,6 +301,7 @@ module _ (t : Table) (hints b set walk : List ℕ) (l : Lent t hints b set walk)
         record {
           ends = λ h. ends-of (three .ends h);
           in-bound = rw fired (three .in-bound);
+          in-budget = rw fired (three .in-budget);
           fewest = λ m e n u w d. let q = reached-in m e in rw (q .1) (rw (walk-length t big (o .state)) at (three .fewest (q .0) n u w d));
         }
 
@@ -175,10 +309,10 @@ module _ (t : Table) (hints b set walk : List ℕ) (l : Lent t hints b set walk)
 module _ (t : Table) (hints hints′ b c set set′ walk walk′ : List ℕ) (l : Lent t hints b set walk) (l′ : Lent t hints′ c set′ walk′) (budget budget′ : ℕ)
     (b₁ s₁ w₁ c₁ s₂ w₂ : List ℕ) (r r′ : answer.RunAnswer)
     (p : RunPromise t hints budget b b₁ set s₁ walk w₁ r) (p′ : RunPromise t hints′ budget′ c c₁ set′ s₂ walk′ w₂ r′) where
-  d2 : RunDemand2 t b b₁ s₁ w₁ r
+  d2 : RunDemand2 t hints b b₁ s₁ w₁ r
   d2 = run-demand-2 t hints b set walk l budget b₁ s₁ w₁ r p
 
-  d2′ : RunDemand2 t c c₁ s₂ w₂ r′
+  d2′ : RunDemand2 t hints′ c c₁ s₂ w₂ r′
   d2′ = run-demand-2 t hints′ c set′ walk′ l′ budget′ c₁ s₂ w₂ r′ p′
 
   d3 : RunDemand3 t budget r

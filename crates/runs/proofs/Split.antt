@@ -1,33 +1,31 @@
 -- Budgets over buffers: b1 rules, then b2 with the hints that remain; and a fresh run buffer passes the entry check.
 use Prim.Native.Nat.{ℕ, zero, suc, _+_, _-_, _*_, _≤_, _/_}
-use native.Mathlib.Nat.{zero-add, add-assoc}
+use native.Mathlib.Nat.{add-assoc}
 use native.Mathlib.Omega.{arith}
-use mathlib.Core.Bool.{Bool, true, false}
+use mathlib.Core.Bool.{true}
 use mathlib.Core.List.{List}
-use mathlib.Core.Logic.{inl, inr}
+use mathlib.Core.Logic.{_⊎_, inl, inr}
 use mathlib.Core.Path.{_≡_, refl, sym, ap, _∙_, ap₂}
 use borrow.Author.Tests.{eq-eqb}
 use lib.ListN.{length, drop, length-drop}
 use lib.Seq.{getD-drop}
-use Rattle.rules.proofs.Budget.{budget}
+use Rattle.rules.proofs.Budget.{run-result, budget}
 use Rattle.rules.proofs.Demands.{fresh-inv}
-use Rattle.rules.proofs.Ends.{run-ind}
+use Rattle.rules.proofs.Ends.{opened, run-done}
 use Rattle.rules.proofs.Held.{kept-accepts}
 use Rattle.rules.proofs.Invariant.{Invariant}
 use Rattle.rules.proofs.Normal.{fresh-normal}
 use Rattle.rules.specs.Buffer.{encode, decode, entryCheck}
-use Rattle.rules.specs.Rules.{fresh, due, house, State}
-use Rattle.rules.specs.Runs.{pick, stop, asks, offered, after, andThen, willDo, choose, run, walk, Outcome}
-use Rattle.rules.specs.Table.{table, Table}
-use Rattle.runs.proofs.Demands.{big, fit, told, fired, took, uses, left-buffer, left-state}
-use Rattle.runs.proofs.Steps.{hints-none, hints-same, hints-more}
+use Rattle.rules.specs.Rules.{fresh, State, Result, reached, unfinished}
+use Rattle.rules.specs.Runs.{stop, andThen, run, walk, Outcome}
+use Rattle.rules.specs.Table.{Table}
+use Rattle.runs.proofs.Demands.{set-twice, walk-twice, big, fit, told, fired, took, uses, left-buffer, left-state, left-hints, walk-room, set-left, walk-left, set-four, walk-256, lent-again}
 use Rattle.runs.proofs.Unique.{outcome-one}
-use Rattle.runs.specs.Demands.{Lent, SplitBudget}
+use Rattle.runs.specs.Demands.{Lent, SplitAnswer, SplitBudget}
 use Rattle.runs.specs.Hints.{hintsFrom, hintsAt}
-use Rattle.runs.specs.Promises.{freshRefusal, runAnswer, RunPromise, FreshPromise}
+use Rattle.runs.specs.Promises.{freshRefusal, runAnswer, setAfter, walkAfter, RunPromise, FreshPromise}
 use Rattle.runs.specs.declared.RunAnswer.{RunAnswer}
-use Rattle.sets.proofs.Tests.{lt-or-ge}
-use Rattle.sets.specs.Sets.{Set, quad}
+use Rattle.sets.specs.Sets.{quad}
 use Rattle.rules.specs.Runs as runs
 use Rattle.runs.specs.declared.RunAnswer as answer
 
@@ -50,35 +48,44 @@ hints-drop ws a =
     let z : a + 0 ≡ a = omega arith in
     rw (e, from-drop ws a (length ws / 4 - a) 0, z)
 
-pick-left : (c : Bool) (ws : List ℕ) (a : ℕ) (will : Set → Bool) (h : Set)
-    → (pick c (hintsAt ws a) will h) .left ≡ hintsAt ws (a + (pick c (hintsAt ws a) will h) .taken)
-unfolding pick offered
-pick-left false ws a will h = hints-same ws a
-pick-left true ws a will h = elim (lt-or-ge a (length ws / 4)) [
-  | inl l ↦ rw (hints-more ws a l) (go (will (quad ws (4 * a))))
-  | inr l ↦ rw (hints-none ws a l) (sym (hints-none ws (a + 0) (omega arith)))
-]
-  where
-    go : (b : Bool) → (offered b (quad ws (4 * a)) h (hintsAt ws (a + 1))) .left ≡ hintsAt ws (a + (offered b (quad ws (4 * a)) h (hintsAt ws (a + 1))) .taken)
-    go true = refl
-    go false = refl
+-- an unfinished run writes neither set nor walk
+set-open : {r : Result} → r ≡ unfinished → (s : State) (l : List ℕ) → setAfter 0 r s l ≡ l
+unfolding setAfter
+set-open e s l = rw e
 
-module _ (t : Table) (big : t .size ≤ 256) (ws : List ℕ) where
-  pub run-left : (b : ℕ) (hs : List Set) (s : State) → Invariant t s → (a : ℕ) → hs ≡ hintsAt ws a → (run t b hs s) .left ≡ hintsAt ws (a + (run t b hs s) .taken)
-  unfolding stop after choose
-  run-left = run-ind t big (λ b hs s o. (a : ℕ) → hs ≡ hintsAt ws a → o .left ≡ hintsAt ws (a + o .taken))
-      (λ b hs s v d a e. e ∙ hints-same ws a)
-      (λ b hs s o v p q a e.
-      let l = rw (← e) at (pick-left (asks (due t s)) ws a (willDo t s) (house t (due t s) s)) in
-      q (a + (choose t hs s) .taken) l ∙ ap (λ k. hintsAt ws k) (add-assoc a ((choose t hs s) .taken) (o .taken)))
+walk-open : (t : Table) {r : Result} → r ≡ unfinished → (s : State) (l : List ℕ) → walkAfter t 0 r s l ≡ l
+unfolding walkAfter
+walk-open t e s l = rw e
 
-module _ (t : Table) (hints b set walk set₂ walk₂ set₃ walk₃ : List ℕ) (n m : ℕ) (b₁ s₁ w₁ b₂ s₂ w₂ b₃ s₃ w₃ : List ℕ) (r₁ r₂ r₃ : answer.RunAnswer)
-    (l₁ : Lent t hints b set walk) (l₂ : Lent t (drop (4 * r₁ .taken) hints) b₁ set₂ walk₂) (l₃ : Lent t hints b set₃ walk₃)
-    (p₁ : RunPromise t hints n b b₁ set s₁ walk w₁ r₁)
-    (p₂ : RunPromise t (drop (4 * r₁ .taken) hints) m b₁ b₂ set₂ s₂ walk₂ w₂ r₂)
-    (p₃ : RunPromise t hints (n + m) b b₃ set₃ s₃ walk₃ w₃ r₃) where
+-- the first run is unfinished, or the second stops at once
+abbrev Goes : runs.Outcome → runs.Outcome → Type 0
+Goes o o′ = (o .result ≡ unfinished) ⊎ (o′ ≡ stop (o .result) (o .left) (o .state))
+
+-- what the second writes is the same over what the first left
+set-over : (o o′ : runs.Outcome) (l l₁ : List ℕ) → Goes o o′ → l₁ ≡ setAfter 0 (o .result) (o .state) l
+    → setAfter 0 (o′ .result) (o′ .state) l ≡ setAfter 0 (o′ .result) (o′ .state) l₁
+unfolding stop
+set-over o o′ l l₁ (inl e) q = ap (setAfter 0 (o′ .result) (o′ .state)) (sym (q ∙ set-open e (o .state) l))
+set-over o o′ l l₁ (inr e) q = rw (e, q) (sym (set-twice (o .result) (o .state) l))
+
+walk-over : (t : Table) (o o′ : runs.Outcome) (l l₁ : List ℕ) → Goes o o′ → (o .result ≡ reached → length (runs.walk t (o .state)) ≤ length l)
+    → l₁ ≡ walkAfter t 0 (o .result) (o .state) l → walkAfter t 0 (o′ .result) (o′ .state) l ≡ walkAfter t 0 (o′ .result) (o′ .state) l₁
+unfolding stop
+walk-over t o o′ l l₁ (inl e) h q = ap (walkAfter t 0 (o′ .result) (o′ .state)) (sym (q ∙ walk-open t e (o .state) l))
+walk-over t o o′ l l₁ (inr e) h q = rw (e, q) (sym (walk-twice t (o .result) (o .state) l h))
+
+-- ---- a first run of n rules, and what m more do
+module _ (t : Table) (hints b set walk : List ℕ) (n m : ℕ) (b₁ s₁ w₁ : List ℕ) (r₁ : answer.RunAnswer)
+    (l₁ : Lent t hints b set walk) (p₁ : RunPromise t hints n b b₁ set s₁ walk w₁ r₁) where
   o₁ : runs.Outcome
   o₁ = run t n (hintsAt hints 0) (decode b)
+
+  -- the hints that remain, and what m rules more do with them
+  abbrev rest : List ℕ
+  rest = drop (4 * r₁ .taken) hints
+
+  o₂ : runs.Outcome
+  o₂ = run t m (hintsAt rest 0) (decode b₁)
 
   N≤ : t .size ≤ 256
   N≤ = big t hints b set walk l₁
@@ -91,33 +98,73 @@ module _ (t : Table) (hints b set walk set₂ walk₂ set₃ walk₃ : List ℕ)
   taken₁ = took t hints b set walk l₁ n b₁ s₁ w₁ r₁ p₁
 
   -- the second run takes up where the first stopped
-  second : run t m (hintsAt (drop (4 * r₁ .taken) hints) 0) (decode b₁) ≡ run t m (o₁ .left) (o₁ .state)
-  unfolding o₁
+  second : o₂ ≡ run t m (o₁ .left) (o₁ .state)
+  unfolding o₁ o₂
   second =
-      let h : hintsAt (drop (4 * r₁ .taken) hints) 0 ≡ o₁ .left
-      = hints-drop hints (r₁ .taken) ∙ ap (λ a. hintsAt hints a) (taken₁ ∙ sym (zero-add (o₁ .taken))) ∙ sym (run-left t N≤ hints n (hintsAt hints 0) (decode b) inv 0 refl) in
-      ap₂ (λ hs s. run t m hs s) h (left-state t hints b set walk l₁ n b₁ s₁ w₁ r₁ p₁)
+      ap₂ (λ hs s. run t m hs s) (hints-drop hints (r₁ .taken) ∙ ap (λ a. hintsAt hints a) taken₁ ∙ sym (left-hints t hints b set walk l₁ n b₁ s₁ w₁ r₁ p₁))
+      (left-state t hints b set walk l₁ n b₁ s₁ w₁ r₁ p₁)
 
-  both : run t (n + m) (hintsAt hints 0) (decode b) ≡ andThen o₁ (run t m (hintsAt (drop (4 * r₁ .taken) hints) 0) (decode b₁))
-  unfolding o₁
+  both : run t (n + m) (hintsAt hints 0) (decode b) ≡ andThen o₁ o₂
+  unfolding o₁ o₂
   both = budget t N≤ n (hintsAt hints 0) (decode b) inv m ∙ ap (andThen o₁) (sym second)
 
-  pub split-budget : SplitBudget r₃ r₁ r₂ b₃ b₂
-  unfolding andThen o₁
-  split-budget =
-      record {
-        outcome = outcome-one (r₃ .outcome) (r₂ .outcome)
-            (told t hints b set₃ walk₃ l₃ (n + m) b₃ s₃ w₃ r₃ p₃ ∙ ap (λ o. runAnswer 0 (o .result) (o .state)) both
-            ∙ sym (told t (drop (4 * r₁ .taken) hints) b₁ set₂ walk₂ l₂ m b₂ s₂ w₂ r₂ p₂));
-        rules = fired t hints b set₃ walk₃ l₃ (n + m) b₃ s₃ w₃ r₃ p₃ ∙ ap (λ o. o .rules) both
-            ∙ ap₂ _+_ (sym (fired t hints b set walk l₁ n b₁ s₁ w₁ r₁ p₁)) (sym (fired t (drop (4 * r₁ .taken) hints) b₁ set₂ walk₂ l₂ m b₂ s₂ w₂ r₂ p₂));
-        taken = took t hints b set₃ walk₃ l₃ (n + m) b₃ s₃ w₃ r₃ p₃ ∙ ap (λ o. o .taken) both
-            ∙ ap₂ _+_ (sym taken₁) (sym (took t (drop (4 * r₁ .taken) hints) b₁ set₂ walk₂ l₂ m b₂ s₂ w₂ r₂ p₂));
-        used = uses t hints b set₃ walk₃ l₃ (n + m) b₃ s₃ w₃ r₃ p₃ ∙ ap (λ o. o .used) both
-            ∙ ap₂ _+_ (sym (uses t hints b set walk l₁ n b₁ s₁ w₁ r₁ p₁)) (sym (uses t (drop (4 * r₁ .taken) hints) b₁ set₂ walk₂ l₂ m b₂ s₂ w₂ r₂ p₂));
-        buffer = left-buffer t hints b set₃ walk₃ l₃ (n + m) b₃ s₃ w₃ r₃ p₃ ∙ ap (λ o. encode (o .state)) both
-            ∙ sym (left-buffer t (drop (4 * r₁ .taken) hints) b₁ set₂ walk₂ l₂ m b₂ s₂ w₂ r₂ p₂);
-      }
+  goes : Goes o₁ o₂
+  unfolding o₁
+  goes =
+      let e = run-result t N≤ n (hintsAt hints 0) (decode b) inv in
+      elim (opened t (o₁ .state)) [
+        | inl q ↦ inl (e ∙ q)
+        | inr d ↦ inr (second ∙ run-done t m (o₁ .left) (o₁ .state) d ∙ ap (λ c. stop c (o₁ .left) (o₁ .state)) (sym e))
+      ]
+
+  -- whatever set and walk the other two are lent
+  module _ (set₂ walk₂ set₃ walk₃ b₂ s₂ w₂ b₃ s₃ w₃ : List ℕ) (r₂ r₃ : answer.RunAnswer)
+      (four : length set₂ ≡ 4) (long : length walk₂ ≡ 256) (l₃ : Lent t hints b set₃ walk₃)
+      (p₂ : RunPromise t rest m b₁ b₂ set₂ s₂ walk₂ w₂ r₂) (p₃ : RunPromise t hints (n + m) b b₃ set₃ s₃ walk₃ w₃ r₃) where
+    l₂ : Lent t rest b₁ set₂ walk₂
+    l₂ = lent-again t hints b set walk l₁ n b₁ s₁ w₁ r₁ p₁ (r₁ .taken) set₂ walk₂ four long
+
+    pub split-answer : SplitAnswer r₃ r₁ r₂ b₃ b₂
+    unfolding andThen o₁ o₂
+    split-answer =
+        record {
+          outcome = outcome-one (r₃ .outcome) (r₂ .outcome)
+              (told t hints b set₃ walk₃ l₃ (n + m) b₃ s₃ w₃ r₃ p₃ ∙ ap (λ o. runAnswer 0 (o .result) (o .state)) both
+              ∙ sym (told t rest b₁ set₂ walk₂ l₂ m b₂ s₂ w₂ r₂ p₂));
+          rules = fired t hints b set₃ walk₃ l₃ (n + m) b₃ s₃ w₃ r₃ p₃ ∙ ap (λ o. o .rules) both
+              ∙ ap₂ _+_ (sym (fired t hints b set walk l₁ n b₁ s₁ w₁ r₁ p₁)) (sym (fired t rest b₁ set₂ walk₂ l₂ m b₂ s₂ w₂ r₂ p₂));
+          taken = took t hints b set₃ walk₃ l₃ (n + m) b₃ s₃ w₃ r₃ p₃ ∙ ap (λ o. o .taken) both
+              ∙ ap₂ _+_ (sym taken₁) (sym (took t rest b₁ set₂ walk₂ l₂ m b₂ s₂ w₂ r₂ p₂));
+          used = uses t hints b set₃ walk₃ l₃ (n + m) b₃ s₃ w₃ r₃ p₃ ∙ ap (λ o. o .used) both
+              ∙ ap₂ _+_ (sym (uses t hints b set walk l₁ n b₁ s₁ w₁ r₁ p₁)) (sym (uses t rest b₁ set₂ walk₂ l₂ m b₂ s₂ w₂ r₂ p₂));
+          buffer = left-buffer t hints b set₃ walk₃ l₃ (n + m) b₃ s₃ w₃ r₃ p₃ ∙ ap (λ o. encode (o .state)) both
+              ∙ sym (left-buffer t rest b₁ set₂ walk₂ l₂ m b₂ s₂ w₂ r₂ p₂);
+        }
+
+  -- the second lent the set and the walk that the first left
+  module _ (b₂ s₂ w₂ b₃ s₃ w₃ : List ℕ) (r₂ r₃ : answer.RunAnswer)
+      (p₂ : RunPromise t rest m b₁ b₂ s₁ s₂ w₁ w₂ r₂) (p₃ : RunPromise t hints (n + m) b b₃ set s₃ walk w₃ r₃) where
+    four₁ : length s₁ ≡ 4
+    four₁ = set-four t hints b set walk l₁ n b₁ s₁ w₁ r₁ p₁
+
+    long₁ : length w₁ ≡ 256
+    long₁ = walk-256 t hints b set walk l₁ n b₁ s₁ w₁ r₁ p₁
+
+    again : Lent t rest b₁ s₁ w₁
+    again = lent-again t hints b set walk l₁ n b₁ s₁ w₁ r₁ p₁ (r₁ .taken) s₁ w₁ four₁ long₁
+
+    pub split-budget : SplitBudget r₃ r₁ r₂ b₃ b₂ s₃ s₂ w₃ w₂
+    unfolding andThen o₁ o₂
+    split-budget =
+        record {
+          answer = split-answer s₁ w₁ set walk b₂ s₂ w₂ b₃ s₃ w₃ r₂ r₃ four₁ long₁ l₁ p₂ p₃;
+          set-same = set-left t hints b set walk l₁ (n + m) b₃ s₃ w₃ r₃ p₃ ∙ ap (λ o. setAfter 0 (o .result) (o .state) set) both
+              ∙ set-over o₁ o₂ set s₁ goes (set-left t hints b set walk l₁ n b₁ s₁ w₁ r₁ p₁)
+              ∙ sym (set-left t rest b₁ s₁ w₁ again m b₂ s₂ w₂ r₂ p₂);
+          walk-same = walk-left t hints b set walk l₁ (n + m) b₃ s₃ w₃ r₃ p₃ ∙ ap (λ o. walkAfter t 0 (o .result) (o .state) walk) both
+              ∙ walk-over t o₁ o₂ walk w₁ goes (walk-room t hints b set walk l₁ n b₁ s₁ w₁ r₁ p₁) (walk-left t hints b set walk l₁ n b₁ s₁ w₁ r₁ p₁)
+              ∙ sym (walk-left t rest b₁ s₁ w₁ again m b₂ s₂ w₂ r₂ p₂);
+        }
 
 -- ---- a fresh run buffer
 pub fresh-enters : (t : Table) → t .size ≤ 256 → (b b′ : List ℕ) → FreshPromise (t .size) b b′ 0 → entryCheck t b′ ≡ true

@@ -9,11 +9,11 @@ use Rattle.answers.specs.Answer.{given}
 use Rattle.sets.specs.Sets.{Proper, inRange}
 use Rattle.rules.specs.Table.{Table, soundTable}
 use Rattle.rules.specs.Walks.{Walked, Bad, BadReached, RealWalk, Closed}
-use Rattle.rules.specs.Published.{Steps}
 use Rattle.rules.specs.Buffer.{decode, entryCheck}
-use Rattle.rules.specs.Demands.{bound}
+use Rattle.rules.specs.Demands.{bound, Steps}
 use Rattle.runs.specs.declared.RunAnswer.{RunAnswer}
 use Rattle.runs.specs.Said.{safe-with, reached-with, said}
+use Rattle.runs.specs.Hints.{hintsAt}
 use Rattle.runs.specs.Promises.{lengthsOk}
 
 -- a sound table, a run buffer that passes the entry check, hints good or bad, and buffers of the right lengths
@@ -40,9 +40,10 @@ SaysReached r m = said (r .outcome) ≡ given (reached-with m)
 abbrev pub Ends : RunAnswer → Type 0
 Ends r = SaysSafe r ⊎ ((m : ℕ) × SaysReached r m)
 
-pub record RunDemand2 (t : Table) (b b′ set′ walk′ : List ℕ) (r : RunAnswer) : Type 0 where
-  -- the rules fired are those published, as many as reported, and the buffer holds the state after the last
-  pub rules-published : Steps t (r .rules) (decode b) (decode b′)
+pub record RunDemand2 (t : Table) (hints b b′ set′ walk′ : List ℕ) (r : RunAnswer) : Type 0 where
+  -- the rules fired are those published, with the choices that the hints make; the numbers are as reported, the hints left
+  -- are those after the hints taken, and the buffer holds the state after the last rule
+  pub rules-published : Steps t (r .rules) (r .taken) (r .used) (hintsAt hints 0) (decode b) (hintsAt hints (r .taken)) (decode b′)
   -- safe: the set written holds every start, no bad state, and every move out of its own members
   pub safe-reason : SaysSafe r → Closed t set′
   -- reached: the states written are a real walk
@@ -54,6 +55,8 @@ pub record RunDemand3 (t : Table) (budget : ℕ) (r : RunAnswer) : Type 0 where
   -- it ends if the budget allows 2·N·N + 2·N rules, and never fires more
   pub ends : bound (t .size) ≤ budget → Ends r
   pub in-bound : r .rules ≤ bound (t .size)
+  -- it fires at most the budget's number of rules
+  pub in-budget : r .rules ≤ budget
   -- a walk shown has the fewest states of any walk from a start to a bad state
   pub fewest : (m : ℕ) → SaysReached r m → (n u : ℕ) → Walked t n u → Bad t u → m ≤ n
 
@@ -62,10 +65,16 @@ pub record SameVerdict (r r′ : RunAnswer) : Type 0 where
   pub both-safe : SaysSafe r → Ends r′ → SaysSafe r′
   pub both-reached : (m : ℕ) → SaysReached r m → Ends r′ → SaysReached r′ m
 
--- b1 rules, then b2 with the hints that remain, end as b1 + b2 do, the numbers added
-pub record SplitBudget (r r₁ r₂ : RunAnswer) (b b₂ : List ℕ) : Type 0 where
+-- b1 rules, then b2 with the hints that remain, end as b1 + b2 do, the numbers added, whatever set and walk each is lent
+pub record SplitAnswer (r r₁ r₂ : RunAnswer) (b b₂ : List ℕ) : Type 0 where
   pub outcome : r .outcome ≡ r₂ .outcome
   pub rules : r .rules ≡ r₁ .rules + r₂ .rules
   pub taken : r .taken ≡ r₁ .taken + r₂ .taken
   pub used : r .used ≡ r₁ .used + r₂ .used
   pub buffer : b ≡ b₂
+
+-- .. and where the second is lent the set and the walk that the first left, these too end the same
+pub record SplitBudget (r r₁ r₂ : RunAnswer) (b b₂ set set₂ walk walk₂ : List ℕ) : Type 0 where
+  pub answer : SplitAnswer r r₁ r₂ b b₂
+  pub set-same : set ≡ set₂
+  pub walk-same : walk ≡ walk₂

@@ -10,7 +10,7 @@ use Rattle.answers.specs.Answer.{Answer, refused, given}
 use Rattle.answers.specs.Refusals as refusals
 use Rattle.answers.specs.Refusals.{noRefusal, outOfRange, wrongLength, failsEntry, notSound}
 use Rattle.sets.specs.Sets.{Set, inRange, sizeRefusal}
-use Rattle.rules.specs.Table.{Table, table, soundTable}
+use Rattle.rules.specs.Table.{Table, soundTable}
 use Rattle.rules.specs.Rules.{State, Result, safe, reached, unfinished, noRoom, Rule, freshOf}
 use Rattle.rules.specs.Runs as runs
 use Rattle.rules.specs.Runs.{run, walk}

@@ -5,12 +5,12 @@ use mathlib.Core.Path.{_≡_, refl, sym, _∙_}
 use mathlib.Core.Logic.{inl, inr}
 use mathlib.Core.Bool.{Bool, true, false, not, _&&_, _||_}
 use mathlib.Core.List.{[], _∷_}
-use lib.Dec.{eqb, ltb}
+use lib.Dec.{ltb}
 use lib.ListN.{getD, length}
-use Rattle.sets.specs.Sets.{Set, Proper, bit, member, wordOf, setOf, empty, full, sound, meet, join, minus, with, smallest}
+use Rattle.sets.specs.Sets.{Set, Proper, bit, member, wordOf, setOf, empty, full, sound, meet, join, minus, smallest}
 use Rattle.sets.proofs.Bits.{bit-zero, bit-pack, pack-out, pack-lt, pack-of, pack-ext, pack-pad}
 use Rattle.sets.proofs.Search.{Least, least-is, all-says}
-use Rattle.sets.proofs.Tests.{passed, passes, fails, clash, never, implied, not-implied, leb-says, lt-or-ge}
+use Rattle.sets.proofs.Tests.{passed, passes, fails, clash, never, implied, leb-says, lt-or-ge}
 
 -- ---- a set given by a test
 pub word-at : (N : ℕ) (p : ℕ → Bool) (q : ℕ) → q < 4 → getD (setOf N p) q 0 ≡ wordOf N p q

@@ -12,9 +12,9 @@ use borrow.Author.Tests.{eq-eqb, ne-eqb, eqb-true}
 use lib.Bits.{bitAnd, bitOr, and-lt, or-lt, and-mask}
 use lib.Count.{ones, trailingZeros}
 use lib.Dec.{eqb, lit<}
-use lib.ListN.{getD, length, set, length-set, drop}
+use lib.ListN.{getD, length, set, length-set, drop, take}
 use lib.Pow.{shl-exact, pow-lt}
-use lib.Seq.{ext-getD, sets, set-out, drop-cons, getD-set-same, getD-set-other}
+use lib.Seq.{ext-getD, sets, sets-eq, take-at, set-out, drop-cons, getD-set-same, getD-set-other}
 use mir.Syntax.{w64}
 use mir.Val.{Fits}
 use Rattle.sets.specs.Search.{sum}
@@ -305,3 +305,7 @@ sets-past (a ∷ x) l i h = rw (set-out l i a h) (sets-past x l (suc i) (omega a
 -- one word written, the rest left to write
 pub sets-step : (l x : List ℕ) (i k : ℕ) → k < length x → sets l (i + k) (drop k x) ≡ sets (set l (i + k) (getD x k 0)) (i + (k + 1)) (drop (k + 1) x)
 sets-step l x i k h = let e : i + (k + 1) ≡ suc (i + k) = omega arith in rw (drop-cons x k 0 h, e, add-one)
+
+-- what is put over the front of a list stands there
+pub take-sets : (w l : List ℕ) → length w ≤ length l → take (length w) (sets l 0 w) ≡ w
+take-sets w l h = rw (sets-eq w l 0 (omega arith)) (take-at w (drop (0 + length w) l) (length w) refl)

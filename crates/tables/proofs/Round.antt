@@ -9,9 +9,9 @@ use borrow.Author.Tests.{eqb-true, ltb-true}
 use lib.Dec.{eqb, ltb}
 use lib.IntN.{ℤ, pos}
 use lib.ListN.{length, getD, take}
-use lib.Seq.{sets, sets-eq, take-at}
 use Rattle.answers.specs.Answer.{Answer, refused, given}
 use Rattle.rules.specs.Table.{soundTable}
+use Rattle.sets.proofs.Words.{take-sets}
 use Rattle.sets.specs.Sets.{count}
 use Rattle.sets.proofs.Search.{all-says}
 use Rattle.sets.proofs.Tests.{passed, and-true}
@@ -104,10 +104,6 @@ unfolding fileOf
 written-length c h w = (file-length c, read-length (fileOf c) (listingOf c) (written-same (listingOf c) (good-listing c h w)) .1)
 
 -- ---- of the code
--- the front of an output that holds a file
-front : (out b : List ℕ) → length b ≤ length out → take (length b) (sets out 0 b) ≡ b
-front out b h = ap (take (length b)) (sets-eq b out 0 (omega arith)) ∙ take-at b _ (length b) refl
-
 -- what `read` answers of a table and leaves in the buffers
 pub record Answers (c : Control) (r : Reading) (rows : List ℕ) (angles : List ℤ) (modes : List ℕ) : Type 0 where
   pub refusal : r .refusal ≡ 0
@@ -150,7 +146,7 @@ module _ {rows : List ℕ} {angles : List ℤ} {modes : List ℕ} {r : Reading} 
           let g = given-is c (length out) b f in
           let v : length b ≤ length out = rw (g .1) at (writable c (length out) (g .0) .1) in
           let m : n ≡ length b = cc in
-          let a : take n out′ ≡ b = ap (take n) o ∙ rw m (front out b v) in
+          let a : take n out′ ≡ b = ap (take n) o ∙ rw m (take-sets b out v) in
           read-is b (listingOf c) (rw s (t .0)) (rw a at q) c (t .1) refl
 
   module _ (file : List ℕ) (B : Bytes file) (p : Read file rows angles modes r rows′ angles′ modes′) (e : r .refusal ≡ 0) where
@@ -180,4 +176,4 @@ module _ {rows : List ℕ} {angles : List ℤ} {modes : List ℕ} {r : Reading} 
     read-then-write {out} {w} {out′} h q =
         let (l, f, c) = read-listed in
         let v : writing answered (length out) ≡ given file = rw c (read-writes file B l f (length out) h) in
-        (q .answer ∙ ap lengthOf v, ap (take (length file)) (q .output ∙ ap (λ (x : Answer (List ℕ)). putIn x out) v) ∙ front out file h)
+        (q .answer ∙ ap lengthOf v, ap (take (length file)) (q .output ∙ ap (λ (x : Answer (List ℕ)). putIn x out) v) ∙ take-sets file out h)
