@@ -63,6 +63,16 @@ impl Reader<'_> {
         Ok((angle, mode))
     }
 
+    /// The section of states.
+    fn take_states(&mut self) -> Result<Vec<(i16, u8)>, ReadRefusal> {
+        let entries = self.take_count(1, 256)?;
+        let mut states = Vec::new();
+        for _ in 0..entries {
+            states.push(self.take_state()?);
+        }
+        Ok(states)
+    }
+
     /// A section of state numbers, strictly rising.
     fn take_set(&mut self, n: usize) -> Result<Set, ReadRefusal> {
         let entries = self.take_count(0, n)?;
@@ -120,12 +130,8 @@ pub fn read(
         return Err((WRONG_LENGTH, 0));
     }
     let mut reader = Reader { file, place: 0 };
-
-    let n = reader.take_count(1, 256)?;
-    let mut states = Vec::new();
-    for _ in 0..n {
-        states.push(reader.take_state()?);
-    }
+    let states = reader.take_states()?;
+    let n = states.len();
     let starts = reader.take_set(n)?;
     let safe = reader.take_set(n)?;
     let pairs = reader.take_moves(n)?;
@@ -134,22 +140,32 @@ pub fn read(
     }
 
     // Nothing can be refused any more: fill the lent buffers.
-    moves.fill(0);
-    for &(from, to) in &pairs {
-        moves[4 * from + to / 64] |= 1 << (to % 64);
-    }
-    angles.fill(0);
-    modes.fill(0);
-    for (s, &(angle, mode)) in states.iter().enumerate() {
-        angles[s] = angle;
-        modes[s] = mode;
-    }
+    fill_moves(moves, &pairs);
+    fill_states(angles, modes, &states);
     Ok(Read {
         n: n as u16,
         starts,
         safe,
         moves: pairs.len(),
     })
+}
+
+/// The move table with these moves and no other.
+fn fill_moves(moves: &mut [u64], pairs: &[(usize, usize)]) {
+    moves.fill(0);
+    for &(from, to) in pairs {
+        moves[4 * from + to / 64] |= 1 << (to % 64);
+    }
+}
+
+/// The angles and modes of the states; "places from N up become 0".
+fn fill_states(angles: &mut [i16], modes: &mut [u8], states: &[(i16, u8)]) {
+    angles.fill(0);
+    modes.fill(0);
+    for (s, &(angle, mode)) in states.iter().enumerate() {
+        angles[s] = angle;
+        modes[s] = mode;
+    }
 }
 
 /// Write a file and answer with its length.  Refusals 7, 2 for N, 13, 3, 2
@@ -167,42 +183,61 @@ pub fn write(
         return Err(WRONG_LENGTH);
     }
     let table = Table::take(moves, n, i, p)?;
-    let n = table.n;
+    check_labels(table.n, angles, modes)?;
+    let pairs = rising_pairs(&table);
+    if pairs.len() > MOST_MOVES {
+        return Err(OUT_OF_RANGE);
+    }
+    let mut file: Vec<u8> = Vec::new();
+    put_states(&mut file, &angles[..table.n], &modes[..table.n]);
+    put_set(&mut file, i);
+    put_set(&mut file, p);
+    put_moves(&mut file, &pairs);
+    if out.len() < file.len() {
+        return Err(OUTPUT_SHORT);
+    }
+    out[..file.len()].copy_from_slice(&file);
+    Ok(file.len())
+}
+
+/// Refusal 13 for "an angle or mode from place N up not 0", then 3.
+fn check_labels(n: usize, angles: &[i16], modes: &[u8]) -> Result<(), u8> {
     if (n..PLACES).any(|s| angles[s] != 0 || modes[s] != 0) {
         return Err(NOT_SOUND);
     }
     if (0..n).any(|s| !angle_in_range(angles[s]) || !mode_in_range(modes[s])) {
         return Err(ANGLE_OR_MODE);
     }
+    Ok(())
+}
+
+/// The moves, "pairs strictly rising, by from and then by to".
+fn rising_pairs(table: &Table) -> Vec<(u16, u16)> {
     let mut pairs = Vec::new();
-    for from in 0..n {
+    for from in 0..table.n {
         for to in table.moves.rows[from].members() {
             pairs.push((from as u16, to as u16));
         }
     }
-    if pairs.len() > MOST_MOVES {
-        return Err(OUT_OF_RANGE);
-    }
+    pairs
+}
 
-    let mut file: Vec<u8> = Vec::new();
-    put_number(&mut file, n as u16);
-    for s in 0..n {
-        file.extend_from_slice(&angles[s].to_le_bytes());
-        file.push(modes[s]);
+/// The section of states, after its count.
+fn put_states(file: &mut Vec<u8>, angles: &[i16], modes: &[u8]) {
+    put_number(file, angles.len() as u16);
+    for (angle, &mode) in angles.iter().zip(modes) {
+        file.extend_from_slice(&angle.to_le_bytes());
+        file.push(mode);
     }
-    put_set(&mut file, i);
-    put_set(&mut file, p);
-    put_number(&mut file, pairs.len() as u16);
-    for &(from, to) in &pairs {
-        put_number(&mut file, from);
-        put_number(&mut file, to);
-    }
+}
 
-    if out.len() < file.len() {
-        return Err(OUTPUT_SHORT);
+/// The section of moves, after its count.
+fn put_moves(file: &mut Vec<u8>, pairs: &[(u16, u16)]) {
+    put_number(file, pairs.len() as u16);
+    for &(from, to) in pairs {
+        put_number(file, from);
+        put_number(file, to);
     }
-    out[..file.len()].copy_from_slice(&file);
-    Ok(file.len())
 }
 
 /// A 16-bit number, little-endian.

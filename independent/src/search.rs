@@ -5,6 +5,7 @@ use crate::rules::{Conclusion, Rule, Run};
 use crate::run_buffer::{put, take, MOST_SETS, RUN_WORDS};
 use crate::set::{number_of_states, Set};
 use crate::table::{Table, MOVE_WORDS};
+use std::slice::ChunksExact;
 
 pub const SET_WORDS: usize = 4;
 pub const WALK_NUMBERS: usize = 256;
@@ -115,63 +116,107 @@ pub fn run(
         Ok(table) => table,
         Err(number) => return RunAnswer::refused(number),
     };
-    // All work is done on `held`; the lent buffers are written at the end.
-    let mut held = match take(run, &table) {
-        Some(held) => held,
-        None => return RunAnswer::refused(ENTRY_CHECK),
+    let Some(held) = take(run, &table) else {
+        return RunAnswer::refused(ENTRY_CHECK);
     };
-    let mut hints_left = hints.chunks_exact(4).map(Set::from_words);
-    let mut rules_fired: u64 = 0;
-    let mut hints_taken: u64 = 0;
-    let mut hints_used: u64 = 0;
+    // All work is done on `search`; the lent buffers are written at the end.
+    let mut search = Search::begin(&table, held, hints);
+    let conclusion = match search.fire_rules(budget) {
+        Ok(conclusion) => conclusion,
+        Err(number) => return RunAnswer::refused(number),
+    };
+    let outcome = search.write_reason(conclusion, set, walk);
+    run.copy_from_slice(&put(&search.held));
+    search.answer(outcome)
+}
 
-    let conclusion = loop {
-        // "The conclusion is tested before the budget".
-        if let Some(conclusion) = held.conclusion(&table) {
-            break Some(conclusion);
+/// A run under way, the hints left and the numbers it reports.
+struct Search<'a> {
+    table: &'a Table,
+    held: Run,
+    hints_left: ChunksExact<'a, u64>,
+    rules_fired: u64,
+    hints_taken: u64,
+    hints_used: u64,
+}
+
+impl<'a> Search<'a> {
+    fn begin(table: &'a Table, held: Run, hints: &'a [u64]) -> Search<'a> {
+        Search {
+            table,
+            held,
+            hints_left: hints.chunks_exact(4),
+            rules_fired: 0,
+            hints_taken: 0,
+            hints_used: 0,
         }
-        if rules_fired == budget {
-            break None;
+    }
+
+    /// Fire rules up to the conclusion; `None` when the budget ends first.
+    fn fire_rules(&mut self, budget: u64) -> Result<Option<Conclusion>, u8> {
+        loop {
+            // "The conclusion is tested before the budget".
+            if let Some(conclusion) = self.held.conclusion(self.table) {
+                return Ok(Some(conclusion));
+            }
+            if self.rules_fired == budget {
+                return Ok(None);
+            }
+            let rule = self.held.rule_due(self.table);
+            if no_room(&self.held, rule) {
+                return Err(NO_ROOM);
+            }
+            let choice = self.choice(rule);
+            self.held.fire(self.table, rule, choice);
+            self.rules_fired += 1;
         }
-        let rule = held.rule_due(&table);
-        if no_room(&held, rule) {
-            return RunAnswer::refused(NO_ROOM);
+    }
+
+    /// The next hint if the rule due allows it, else the house choice.
+    fn choice(&mut self, rule: Rule) -> Set {
+        // Unfold chooses nothing and takes no hint.
+        let Some(house) = self.held.house_choice(self.table, rule) else {
+            return Set::EMPTY;
+        };
+        let Some(words) = self.hints_left.next() else {
+            return house;
+        };
+        let hint = Set::from_words(words);
+        self.hints_taken += 1;
+        if !self.held.allowed(self.table, rule, hint) {
+            return house;
         }
-        match held.house_choice(&table, rule) {
-            // Unfold chooses nothing and takes no hint.
-            None => held.fire(&table, rule, Set::EMPTY),
-            Some(house) => {
-                let mut choice = house;
-                if let Some(hint) = hints_left.next() {
-                    hints_taken += 1;
-                    if held.allowed(&table, rule, hint) {
-                        hints_used += 1;
-                        choice = hint;
-                    }
-                }
-                held.fire(&table, rule, choice);
+        self.hints_used += 1;
+        hint
+    }
+
+    /// The set of a safe run or the walk of a reached one, to its lent buffer.
+    fn write_reason(
+        &self,
+        conclusion: Option<Conclusion>,
+        set: &mut [u64],
+        walk: &mut [u16],
+    ) -> Outcome {
+        match conclusion {
+            None => Outcome::Unfinished,
+            Some(Conclusion::Safe(j)) => {
+                set.copy_from_slice(&self.held.x[j].0);
+                Outcome::Safe(j as u16)
+            }
+            Some(Conclusion::Reached) => {
+                let states = self.held.walk(self.table);
+                walk[..states.len()].copy_from_slice(&states);
+                Outcome::Reached(states.len() as u16)
             }
         }
-        rules_fired += 1;
-    };
+    }
 
-    let outcome = match conclusion {
-        None => Outcome::Unfinished,
-        Some(Conclusion::Safe(j)) => {
-            set.copy_from_slice(&held.x[j].0);
-            Outcome::Safe(j as u16)
+    fn answer(&self, outcome: Outcome) -> RunAnswer {
+        RunAnswer {
+            outcome,
+            rules_fired: self.rules_fired,
+            hints_taken: self.hints_taken,
+            hints_used: self.hints_used,
         }
-        Some(Conclusion::Reached) => {
-            let states = held.walk(&table);
-            walk[..states.len()].copy_from_slice(&states);
-            Outcome::Reached(states.len() as u16)
-        }
-    };
-    run.copy_from_slice(&put(&held));
-    RunAnswer {
-        outcome,
-        rules_fired,
-        hints_taken,
-        hints_used,
     }
 }

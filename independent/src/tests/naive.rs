@@ -104,111 +104,179 @@ fn entry(held: &[u64], plain: &Plain) -> bool {
 }
 
 /// The run on the raw buffer: the answer and the walk or set.
-fn run_plain(plain: &Plain, held: &mut [u64], hints: &[u64], budget: u64) -> Ran {
-    let mut answer = RunAnswer {
-        outcome: Outcome::Unfinished,
-        rules_fired: 0,
-        hints_taken: 0,
-        hints_used: 0,
-    };
-    let mut set = [MARK; 4];
-    let mut walk = [WALK_MARK; 256];
+fn run_plain(plain: &Plain, held: &[u64], hints: &[u64], budget: u64) -> Ran {
+    let mut run = PlainRun::begin(plain, held, hints);
     if !entry(held, plain) {
-        answer.outcome = Outcome::Refused(8);
-    } else {
-        loop {
-            let (n, k) = (held[0] as usize, held[1] as usize);
-            if let Some(j) = (0..=n - 2).find(|&j| x(held, j + 1).is_subset(&x(held, j))) {
-                set = words(&x(held, j));
-                answer.outcome = Outcome::Safe(j as u16);
-                break;
-            }
-            if k == 1 && !plain.i.is_subset(&y(held, 1)) {
-                let outside = y(held, 1);
-                let mut here = *plain.i.iter().find(|s| !outside.contains(s)).unwrap();
-                walk[0] = here as u16;
-                for j in 2..n {
-                    let outside = y(held, j);
-                    here = plain
-                        .pairs
-                        .iter()
-                        .find(|pair| pair.0 == here && !outside.contains(&pair.1))
-                        .unwrap()
-                        .1;
-                    walk[j - 1] = here as u16;
-                }
-                answer.outcome = Outcome::Reached((n - 1) as u16);
-                break;
-            }
-            if answer.rules_fired == budget {
-                break;
-            }
-            answer.rules_fired += 1;
-            let rule = match (k == n, x(held, n - 1).is_subset(&plain.p)) {
-                (true, true) => Rule::Unfold,
-                (true, false) => Rule::Candidate,
-                _ if !plain.f(&x(held, k - 1)).is_subset(&y(held, k)) => Rule::Decide,
-                _ => Rule::Conflict,
-            };
-            if rule == Rule::Unfold {
-                held[2 + 4 * n..6 + 4 * n].copy_from_slice(&words(&(0..plain.n).collect()));
-                held[0] += 1;
-                held[1] += 1;
-                continue;
-            }
-            let at = 4 * answer.hints_taken as usize;
-            let hint = if at < hints.len() {
-                answer.hints_taken += 1;
-                Some(numbers(&hints[at..at + 4]))
-            } else {
-                None
-            };
-            let hint = hint.filter(|z| {
-                z.iter().all(|&s| s < plain.n)
-                    && match rule {
-                        Rule::Candidate => plain.p.is_subset(z) && !x(held, n - 1).is_subset(z),
-                        Rule::Decide => {
-                            plain.g(&y(held, k)).is_subset(z) && !x(held, k - 1).is_subset(z)
-                        }
-                        _ => {
-                            let both = x(held, k - 1).intersection(z).copied().collect();
-                            z.is_subset(&y(held, k))
-                                && plain.i.is_subset(z)
-                                && plain.f(&both).is_subset(z)
-                        }
-                    }
-            });
-            if hint.is_some() {
-                answer.hints_used += 1;
-            }
-            match rule {
-                Rule::Candidate | Rule::Decide => {
-                    let house = if rule == Rule::Candidate {
-                        plain.p.clone()
-                    } else {
-                        plain.g(&y(held, k))
-                    };
-                    let z = hint.unwrap_or(house);
-                    held[1034 + 4 * (k - 1)..1038 + 4 * (k - 1)].copy_from_slice(&words(&z));
-                    held[1] -= 1;
-                }
-                _ => {
-                    let z = hint.unwrap_or(y(held, k));
-                    for j in 0..=k {
-                        let both: Numbers = x(held, j).intersection(&z).copied().collect();
-                        held[2 + 4 * j..6 + 4 * j].copy_from_slice(&words(&both));
-                    }
-                    held[1034 + 4 * k..1038 + 4 * k].copy_from_slice(&[0; 4]);
-                    held[1] += 1;
-                }
+        run.ran.answer.outcome = Outcome::Refused(8);
+        return run.ran;
+    }
+    while !run.concludes() && run.ran.answer.rules_fired != budget {
+        run.fire();
+    }
+    run.ran
+}
+
+/// A run under way on a raw buffer that passes the entry check.
+struct PlainRun<'a> {
+    plain: &'a Plain,
+    hints: &'a [u64],
+    ran: Ran,
+}
+
+impl PlainRun<'_> {
+    fn begin<'a>(plain: &'a Plain, held: &[u64], hints: &'a [u64]) -> PlainRun<'a> {
+        let answer = RunAnswer {
+            outcome: Outcome::Unfinished,
+            rules_fired: 0,
+            hints_taken: 0,
+            hints_used: 0,
+        };
+        let ran = Ran {
+            answer,
+            held: held.to_vec(),
+            set: [MARK; 4],
+            walk: [WALK_MARK; 256],
+        };
+        PlainRun { plain, hints, ran }
+    }
+
+    fn n(&self) -> usize {
+        self.ran.held[0] as usize
+    }
+
+    fn k(&self) -> usize {
+        self.ran.held[1] as usize
+    }
+
+    fn x(&self, j: usize) -> Numbers {
+        x(&self.ran.held, j)
+    }
+
+    fn y(&self, j: usize) -> Numbers {
+        y(&self.ran.held, j)
+    }
+
+    fn put_x(&mut self, j: usize, set: &Numbers) {
+        self.ran.held[2 + 4 * j..6 + 4 * j].copy_from_slice(&words(set));
+    }
+
+    fn put_y(&mut self, j: usize, set: &Numbers) {
+        self.ran.held[1034 + 4 * j..1038 + 4 * j].copy_from_slice(&words(set));
+    }
+
+    /// Is the run concluded?  If so, its verdict and reason are written.
+    fn concludes(&mut self) -> bool {
+        let n = self.n();
+        if let Some(j) = (0..=n - 2).find(|&j| self.x(j + 1).is_subset(&self.x(j))) {
+            self.ran.set = words(&self.x(j));
+            self.ran.answer.outcome = Outcome::Safe(j as u16);
+            return true;
+        }
+        if self.k() == 1 && !self.plain.i.is_subset(&self.y(1)) {
+            self.write_walk();
+            self.ran.answer.outcome = Outcome::Reached((n - 1) as u16);
+            return true;
+        }
+        false
+    }
+
+    fn write_walk(&mut self) {
+        let outside = self.y(1);
+        let mut starts = self.plain.i.iter();
+        let mut here = *starts.find(|s| !outside.contains(s)).unwrap();
+        self.ran.walk[0] = here as u16;
+        for j in 2..self.n() {
+            let outside = self.y(j);
+            let mut pairs = self.plain.pairs.iter();
+            here = pairs
+                .find(|pair| pair.0 == here && !outside.contains(&pair.1))
+                .unwrap()
+                .1;
+            self.ran.walk[j - 1] = here as u16;
+        }
+    }
+
+    fn fire(&mut self) {
+        self.ran.answer.rules_fired += 1;
+        let rule = self.rule_due();
+        if rule == Rule::Unfold {
+            self.unfold();
+            return;
+        }
+        let hint = self.take_hint().filter(|z| self.allows(rule, z));
+        if hint.is_some() {
+            self.ran.answer.hints_used += 1;
+        }
+        let z = hint.unwrap_or_else(|| self.house_choice(rule));
+        match rule {
+            Rule::Candidate | Rule::Decide => self.hold_y(&z),
+            _ => self.conflict(&z),
+        }
+    }
+
+    fn rule_due(&self) -> Rule {
+        let (n, k) = (self.n(), self.k());
+        match (k == n, self.x(n - 1).is_subset(&self.plain.p)) {
+            (true, true) => Rule::Unfold,
+            (true, false) => Rule::Candidate,
+            _ if !self.plain.f(&self.x(k - 1)).is_subset(&self.y(k)) => Rule::Decide,
+            _ => Rule::Conflict,
+        }
+    }
+
+    fn take_hint(&mut self) -> Option<Numbers> {
+        let at = 4 * self.ran.answer.hints_taken as usize;
+        if at < self.hints.len() {
+            self.ran.answer.hints_taken += 1;
+            Some(numbers(&self.hints[at..at + 4]))
+        } else {
+            None
+        }
+    }
+
+    fn allows(&self, rule: Rule, z: &Numbers) -> bool {
+        let (n, k, plain) = (self.n(), self.k(), self.plain);
+        if z.iter().any(|&s| s >= plain.n) {
+            return false;
+        }
+        match rule {
+            Rule::Candidate => plain.p.is_subset(z) && !self.x(n - 1).is_subset(z),
+            Rule::Decide => plain.g(&self.y(k)).is_subset(z) && !self.x(k - 1).is_subset(z),
+            _ => {
+                let both = self.x(k - 1).intersection(z).copied().collect();
+                z.is_subset(&self.y(k)) && plain.i.is_subset(z) && plain.f(&both).is_subset(z)
             }
         }
     }
-    Ran {
-        answer,
-        held: held.to_vec(),
-        set,
-        walk,
+
+    fn house_choice(&self, rule: Rule) -> Numbers {
+        match rule {
+            Rule::Candidate => self.plain.p.clone(),
+            Rule::Decide => self.plain.g(&self.y(self.k())),
+            _ => self.y(self.k()),
+        }
+    }
+
+    fn unfold(&mut self) {
+        self.put_x(self.n(), &(0..self.plain.n).collect());
+        self.ran.held[0] += 1;
+        self.ran.held[1] += 1;
+    }
+
+    /// Candidate and Decide alike: z becomes the y below.
+    fn hold_y(&mut self, z: &Numbers) {
+        self.put_y(self.k() - 1, z);
+        self.ran.held[1] -= 1;
+    }
+
+    fn conflict(&mut self, z: &Numbers) {
+        let k = self.k();
+        for j in 0..=k {
+            let both: Numbers = self.x(j).intersection(z).copied().collect();
+            self.put_x(j, &both);
+        }
+        self.put_y(k, &Numbers::new());
+        self.ran.held[1] += 1;
     }
 }
 
@@ -225,8 +293,7 @@ fn the_second_reading_agrees() {
         let hints = any_hints(&mut random, &table, &from);
         let budget = any_budget(&mut random, table.n);
         let plain = Plain::of(&model);
-        let mut copy = held;
-        let expected = run_plain(&plain, &mut copy, &hints, budget);
+        let expected = run_plain(&plain, &held, &hints, budget);
         let ran = ran_from(&model, &held, &hints, budget);
         assert_eq!(ran, expected);
         if expected.answer.outcome != Outcome::Refused(8) {

@@ -126,43 +126,52 @@ fn run_buffers_of_wrong_length() {
     }
 }
 
-#[test]
-fn single_rule_10_then_9() {
-    let model = model_a();
-    let call = |words: &mut [u64], z: Set| {
-        let before = words.to_vec();
-        let answer = single_rule(&model.moves, model.n, model.i, model.p, words, z);
-        if answer.is_err() {
-            assert_eq!(words, before);
-        }
-        answer
-    };
-    let mut words = fresh_run(3);
+/// Fire a single rule; a refusal must leave the run buffer untouched.
+fn fired(model: &Model, words: &mut [u64], z: Set) -> Result<Rule, u8> {
+    let before = words.to_vec();
+    let answer = single_rule(&model.moves, model.n, model.i, model.p, words, z);
+    if answer.is_err() {
+        assert_eq!(words, before);
+    }
+    answer
+}
+
+/// Candidate, Conflict and Unfold, in A from fresh.
+fn check_proposals_in_a(model: &Model, words: &mut [u64]) {
+    let mut call = |z: Set| fired(model, words, z);
     // Candidate: x_1 within z, P not within z, a member from N up.
-    assert_eq!(call(&mut words, set_of(&[0, 1, 2])), Err(9));
-    assert_eq!(call(&mut words, set_of(&[0])), Err(9));
-    assert_eq!(call(&mut words, set_of(&[0, 1, 3])), Err(9));
-    assert_eq!(call(&mut words, set_of(&[0, 1, 255])), Err(9));
-    assert_eq!(call(&mut words, set_of(&[0, 1])), Ok(Rule::Candidate));
+    assert_eq!(call(set_of(&[0, 1, 2])), Err(9));
+    assert_eq!(call(set_of(&[0])), Err(9));
+    assert_eq!(call(set_of(&[0, 1, 3])), Err(9));
+    assert_eq!(call(set_of(&[0, 1, 255])), Err(9));
+    assert_eq!(call(set_of(&[0, 1])), Ok(Rule::Candidate));
     // Conflict: z not within y_1, I not within z.
-    assert_eq!(call(&mut words, set_of(&[0, 2])), Err(9));
-    assert_eq!(call(&mut words, set_of(&[1])), Err(9));
-    assert_eq!(call(&mut words, set_of(&[0, 255])), Err(9));
-    assert_eq!(call(&mut words, set_of(&[0])), Ok(Rule::Conflict));
+    assert_eq!(call(set_of(&[0, 2])), Err(9));
+    assert_eq!(call(set_of(&[1])), Err(9));
+    assert_eq!(call(set_of(&[0, 255])), Err(9));
+    assert_eq!(call(set_of(&[0])), Ok(Rule::Conflict));
     // Unfold ignores the proposal, whatever it holds.
-    assert_eq!(call(&mut words, Set([u64::MAX; 4])), Ok(Rule::Unfold));
-    assert_eq!(call(&mut words, set_of(&[0, 1])), Ok(Rule::Candidate));
+    assert_eq!(call(Set([u64::MAX; 4])), Ok(Rule::Unfold));
+}
+
+/// On from x_1 = {0} in A to the conclusion, where 10 comes before 9.
+fn check_conclusion_in_a(model: &Model, words: &mut [u64]) {
+    let mut call = |z: Set| fired(model, words, z);
+    assert_eq!(call(set_of(&[0, 1])), Ok(Rule::Candidate));
     // x_1 = {0}, f(x_1) = {1} within y_2 = {0,1}: Conflict.
-    assert_eq!(call(&mut words, set_of(&[0])), Err(9));
-    assert_eq!(call(&mut words, set_of(&[0, 1])), Ok(Rule::Conflict));
+    assert_eq!(call(set_of(&[0])), Err(9));
+    assert_eq!(call(set_of(&[0, 1])), Ok(Rule::Conflict));
     // Not concluded: x_1 = {0}, x_2 = {0,1}.
-    assert_eq!(call(&mut words, Set::EMPTY), Ok(Rule::Unfold));
-    assert_eq!(call(&mut words, set_of(&[0, 1])), Ok(Rule::Candidate));
-    assert_eq!(call(&mut words, set_of(&[0, 1])), Ok(Rule::Conflict));
+    assert_eq!(call(Set::EMPTY), Ok(Rule::Unfold));
+    assert_eq!(call(set_of(&[0, 1])), Ok(Rule::Candidate));
+    assert_eq!(call(set_of(&[0, 1])), Ok(Rule::Conflict));
     // Concluded: 10 before 9.
-    assert_eq!(call(&mut words, Set([u64::MAX; 4])), Err(10));
-    assert_eq!(call(&mut words, set_of(&[0, 1])), Err(10));
-    // Decide, in B.
+    assert_eq!(call(Set([u64::MAX; 4])), Err(10));
+    assert_eq!(call(set_of(&[0, 1])), Err(10));
+}
+
+/// Decide, in B.
+fn check_decide_in_b() {
     let model = model_b();
     let table = model.table();
     let mut held = Run::fresh(3);
@@ -173,7 +182,7 @@ fn single_rule_10_then_9() {
     }
     // x_1 = {0,1}, y_2 = P: g(P) = {0,2} within z, x_1 not within z.
     let mut words = put(&held).to_vec();
-    let mut call = |z: Set| single_rule(&model.moves, 3, model.i, model.p, &mut words, z);
+    let mut call = |z: Set| fired(&model, &mut words, z);
     assert_eq!(call(set_of(&[0, 1, 2])), Err(9));
     assert_eq!(call(set_of(&[0])), Err(9));
     assert_eq!(call(set_of(&[0, 2, 64])), Err(9));
@@ -181,47 +190,87 @@ fn single_rule_10_then_9() {
 }
 
 #[test]
+fn single_rule_10_then_9() {
+    let model = model_a();
+    let mut words = fresh_run(3);
+    check_proposals_in_a(&model, &mut words);
+    check_conclusion_in_a(&model, &mut words);
+    check_decide_in_b();
+}
+
+/// One run buffer lent to a run and to a single rule.
+struct BothCalls {
+    lent: Model,
+    held: Vec<u64>,
+    ran: Ran,
+    single: Result<Rule, u8>,
+    /// The run buffer after the single rule.
+    words: Vec<u64>,
+}
+
+/// Any run buffer, on a model that is damaged at times.
+fn any_both_calls(random: &mut Random) -> BothCalls {
+    let model = if random.chance(1, 4) {
+        any_model(random)
+    } else {
+        small_model(random, 20)
+    };
+    let table = model.table();
+    let held = any_run_buffer(random, &table).to_vec();
+    let lent = if random.chance(1, 4) {
+        damaged_model(random, &model)
+    } else {
+        model
+    };
+    let hints = any_hints(random, &table, &Run::fresh(table.n));
+    let budget = any_budget(random, table.n);
+    let ran = ran_from(&lent, &held, &hints, budget);
+    let mut words = held.clone();
+    let z = any_hint(random, &table);
+    let single = single_rule(&lent.moves, lent.n, lent.i, lent.p, &mut words, z);
+    BothCalls {
+        lent,
+        held,
+        ran,
+        single,
+        words,
+    }
+}
+
+/// A refused run changes nothing, and the single rule is refused likewise.
+fn check_refused(calls: &BothCalls, number: u8) {
+    assert_eq!(calls.ran.held, calls.held);
+    assert_eq!(calls.ran.set, [MARK; 4]);
+    assert_eq!(calls.ran.walk, [WALK_MARK; 256]);
+    assert_eq!(calls.single, Err(number));
+}
+
+/// What is not refused keeps the entry check.
+fn check_not_refused(calls: &BothCalls) {
+    let table = calls.lent.table();
+    let after = take(&calls.ran.held, &table).expect("the entry check after a run");
+    assert_eq!(put(&after).to_vec(), calls.ran.held);
+    match calls.single {
+        Err(number) => assert!(number == 9 || number == 10),
+        Ok(_) => assert!(take(&calls.words, &table).is_some()),
+    }
+}
+
+#[test]
 fn damaged_models_and_runs_change_nothing() {
     let mut random = Random::new(41);
     let mut seen = [0; 14];
     for _ in 0..6000 {
-        let model = if random.chance(1, 4) {
-            any_model(&mut random)
-        } else {
-            small_model(&mut random, 20)
-        };
-        let table = model.table();
-        let held = any_run_buffer(&mut random, &table);
-        let lent = if random.chance(1, 4) {
-            damaged_model(&mut random, &model)
-        } else {
-            model
-        };
-        let from = Run::fresh(table.n);
-        let hints = any_hints(&mut random, &table, &from);
-        let budget = any_budget(&mut random, table.n);
-        let ran = ran_from(&lent, &held, &hints, budget);
-        let mut words = held.to_vec();
-        let z = any_hint(&mut random, &table);
-        let single = single_rule(&lent.moves, lent.n, lent.i, lent.p, &mut words, z);
-        if let Outcome::Refused(number) = ran.answer.outcome {
+        let calls = any_both_calls(&mut random);
+        if let Outcome::Refused(number) = calls.ran.answer.outcome {
             seen[usize::from(number)] += 1;
-            assert_eq!(ran.held, held);
-            assert_eq!(ran.set, [MARK; 4]);
-            assert_eq!(ran.walk, [WALK_MARK; 256]);
-            assert_eq!(single, Err(number));
+            check_refused(&calls, number);
         } else {
             seen[0] += 1;
-            let table = lent.table();
-            let after = take(&ran.held, &table).expect("the entry check after a run");
-            assert_eq!(put(&after).to_vec(), ran.held);
-            match single {
-                Err(number) => assert!(number == 9 || number == 10),
-                Ok(_) => assert!(take(&words, &table).is_some()),
-            }
+            check_not_refused(&calls);
         }
-        if let Err(number) = single {
-            assert_eq!(words, held);
+        if let Err(number) = calls.single {
+            assert_eq!(calls.words, calls.held);
             if number >= 9 && number != 13 {
                 seen[usize::from(number)] += 1;
             }

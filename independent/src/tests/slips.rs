@@ -18,6 +18,19 @@ fn dead_ends_are_in_every_g() {
     assert_eq!(g(&[1, 2]), set_of(&[0, 1, 2, 3]));
 }
 
+/// A Conflict with z meets every x up to x_k, and no other.
+fn check_conflict(held: &Run, z: Set, after: &Run) {
+    assert_eq!(after.n(), held.n());
+    assert_eq!(after.k(), held.k() + 1);
+    for j in 0..held.n() {
+        if j <= held.k() {
+            assert_eq!(after.x[j], held.x[j].meet(z));
+        } else {
+            assert_eq!(after.x[j], held.x[j]);
+        }
+    }
+}
+
 /// "Conflict meets only x_k with z. The lower x must be met too, or the
 /// chain stops rising."
 #[test]
@@ -41,15 +54,7 @@ fn conflict_meets_every_lower_x() {
             assert_eq!(answer, Ok(rule));
             let after = take(&words, &table).expect("the entry check after a rule");
             if rule == Rule::Conflict {
-                assert_eq!(after.n(), held.n());
-                assert_eq!(after.k(), held.k() + 1);
-                for j in 0..held.n() {
-                    if j <= held.k() {
-                        assert_eq!(after.x[j], held.x[j].meet(z));
-                    } else {
-                        assert_eq!(after.x[j], held.x[j]);
-                    }
-                }
+                check_conflict(&held, z, &after);
                 // With the slip, this x_j would not be within x_(j+1).
                 if (0..held.k()).any(|j| !held.x[j].within(z)) {
                     lower_changed += 1;

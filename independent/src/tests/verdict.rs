@@ -6,7 +6,9 @@ use crate::make::*;
 use crate::random::Random;
 use crate::rules::{Conclusion, Run};
 use crate::run_buffer::{put, take};
+use crate::table::Table;
 use crate::{count, fresh, single_rule, Outcome, Rule};
+use std::slice::Chunks;
 
 fn bound(n: u16) -> u64 {
     let n = u64::from(n);
@@ -16,47 +18,48 @@ fn bound(n: u16) -> u64 {
 /// A run that ended: right verdict, real and shortest walk, closed set,
 /// rules within the bound, buffers as document 01 says.
 fn check_end(model: &Model, ran: &Ran) {
-    let n = model.states();
     assert!(ran.answer.rules_fired <= bound(model.n));
     assert!(ran.answer.hints_used <= ran.answer.hints_taken);
     assert!(ran.answer.hints_taken <= ran.answer.rules_fired);
-    let table = model.table();
-    let after = take(&ran.held, &table).expect("the entry check after a run");
     match ran.answer.outcome {
-        Outcome::Safe(j) => {
-            assert_eq!(model.shortest_walk(), None);
-            let set = Set(ran.set);
-            assert!(model.i.within(set), "holds every start");
-            assert!(set.within(model.p), "holds no bad state");
-            for (from, to) in model.pairs() {
-                assert!(!set.member(from) || set.member(to), "closed");
-            }
-            assert!(model.reachable().within(set));
-            assert_eq!(
-                after.conclusion(&table),
-                Some(Conclusion::Safe(usize::from(j)))
-            );
-            assert_eq!(after.x[usize::from(j)], set);
-            assert_eq!(ran.walk, [WALK_MARK; 256]);
-        }
-        Outcome::Reached(states) => {
-            let states = usize::from(states);
-            assert_eq!(model.shortest_walk(), Some(states), "the fewest states");
-            let walk: Vec<usize> = ran.walk[..states].iter().map(|&s| usize::from(s)).collect();
-            assert!(walk.iter().all(|&s| s < n));
-            assert!(model.i.member(walk[0]), "from a start");
-            assert!(!model.p.member(walk[states - 1]), "to a bad state");
-            for step in walk.windows(2) {
-                assert!(model.has_move(step[0], step[1]), "by moves");
-            }
-            assert!(ran.walk[states..].iter().all(|&s| s == WALK_MARK));
-            assert_eq!(ran.set, [MARK; 4]);
-            assert_eq!(after.conclusion(&table), Some(Conclusion::Reached));
-            assert_eq!(after.k(), 1);
-            assert_eq!(after.n(), states + 1);
-        }
+        Outcome::Safe(j) => check_safe_end(model, ran, usize::from(j)),
+        Outcome::Reached(states) => check_reached_end(model, ran, usize::from(states)),
         other => panic!("the run did not end: {other:?}"),
     }
+}
+
+fn check_safe_end(model: &Model, ran: &Ran, j: usize) {
+    assert_eq!(model.shortest_walk(), None);
+    let set = Set(ran.set);
+    assert!(model.i.within(set), "holds every start");
+    assert!(set.within(model.p), "holds no bad state");
+    for (from, to) in model.pairs() {
+        assert!(!set.member(from) || set.member(to), "closed");
+    }
+    assert!(model.reachable().within(set));
+    let table = model.table();
+    let after = take(&ran.held, &table).expect("the entry check after a run");
+    assert_eq!(after.conclusion(&table), Some(Conclusion::Safe(j)));
+    assert_eq!(after.x[j], set);
+    assert_eq!(ran.walk, [WALK_MARK; 256]);
+}
+
+fn check_reached_end(model: &Model, ran: &Ran, states: usize) {
+    assert_eq!(model.shortest_walk(), Some(states), "the fewest states");
+    let walk: Vec<usize> = ran.walk[..states].iter().map(|&s| usize::from(s)).collect();
+    assert!(walk.iter().all(|&s| s < model.states()));
+    assert!(model.i.member(walk[0]), "from a start");
+    assert!(!model.p.member(walk[states - 1]), "to a bad state");
+    for step in walk.windows(2) {
+        assert!(model.has_move(step[0], step[1]), "by moves");
+    }
+    assert!(ran.walk[states..].iter().all(|&s| s == WALK_MARK));
+    assert_eq!(ran.set, [MARK; 4]);
+    let table = model.table();
+    let after = take(&ran.held, &table).expect("the entry check after a run");
+    assert_eq!(after.conclusion(&table), Some(Conclusion::Reached));
+    assert_eq!(after.k(), 1);
+    assert_eq!(after.n(), states + 1);
 }
 
 #[test]
@@ -263,6 +266,62 @@ fn house_choice_is_always_allowed() {
     assert!(fired.iter().all(|&times| times > 500), "{fired:?}");
 }
 
+/// A run made of single rules: its buffer, the hints left, the numbers.
+struct ByRules<'a> {
+    model: &'a Model,
+    words: Vec<u64>,
+    hints_left: Chunks<'a, u64>,
+    fired: u64,
+    taken: u64,
+    used: u64,
+}
+
+impl ByRules<'_> {
+    fn call(&mut self, z: Set) -> Result<Rule, u8> {
+        let model = self.model;
+        single_rule(&model.moves, model.n, model.i, model.p, &mut self.words, z)
+    }
+
+    /// The next hint as a proposal, if the rule due takes one and it is left.
+    fn fire_hint(&mut self, now: &Run, rule: Rule) -> Option<Result<Rule, u8>> {
+        if rule == Rule::Unfold {
+            return None;
+        }
+        let hint = Set::from_words(self.hints_left.next()?);
+        self.taken += 1;
+        let answer = self.call(hint);
+        if answer.is_ok() {
+            self.used += 1;
+        } else {
+            assert_eq!(self.words, put(now));
+        }
+        Some(answer)
+    }
+
+    /// The rule due, with its hint or else the house choice.
+    fn fire(&mut self, random: &mut Random, table: &Table, now: &Run) {
+        let rule = now.rule_due(table);
+        let mut answer = self.fire_hint(now, rule).unwrap_or(Err(9));
+        if answer == Err(9) {
+            let house = now.house_choice(table, rule).unwrap_or(any_words(random));
+            answer = self.call(house);
+        }
+        assert_eq!(answer, Ok(rule));
+        self.fired += 1;
+    }
+
+    fn run(&mut self, random: &mut Random, table: &Table, budget: u64) {
+        while self.fired < budget {
+            let now = take(&self.words, table).unwrap();
+            if now.conclusion(table).is_some() {
+                assert_eq!(self.call(Set::EMPTY), Err(10));
+                break;
+            }
+            self.fire(random, table, &now);
+        }
+    }
+}
+
 /// A run is its single rules one after the other.
 #[test]
 fn a_run_is_its_single_rules() {
@@ -274,44 +333,19 @@ fn a_run_is_its_single_rules() {
         let hints = any_hints(&mut random, &table, &from);
         let budget = any_budget(&mut random, table.n);
         let ran = ran_from(&model, &put(&from), &hints, budget);
-        let mut words = put(&from).to_vec();
-        let mut next = hints.chunks(4).map(Set::from_words);
-        let (mut fired, mut taken, mut used) = (0, 0, 0);
-        let call = |words: &mut [u64], z: Set| {
-            single_rule(&model.moves, model.n, model.i, model.p, words, z)
+        let mut by_rules = ByRules {
+            model: &model,
+            words: put(&from).to_vec(),
+            hints_left: hints.chunks(4),
+            fired: 0,
+            taken: 0,
+            used: 0,
         };
-        while fired < budget {
-            let now = take(&words, &table).unwrap();
-            if now.conclusion(&table).is_some() {
-                assert_eq!(call(&mut words, Set::EMPTY), Err(10));
-                break;
-            }
-            let rule = now.rule_due(&table);
-            let mut answer = Err(9);
-            if rule != Rule::Unfold {
-                if let Some(hint) = next.next() {
-                    taken += 1;
-                    answer = call(&mut words, hint);
-                    if answer.is_ok() {
-                        used += 1;
-                    } else {
-                        assert_eq!(words, put(&now));
-                    }
-                }
-            }
-            if answer == Err(9) {
-                let house = now
-                    .house_choice(&table, rule)
-                    .unwrap_or(any_words(&mut random));
-                answer = call(&mut words, house);
-            }
-            assert_eq!(answer, Ok(rule));
-            fired += 1;
-        }
-        assert_eq!(words, ran.held);
-        assert_eq!(ran.answer.rules_fired, fired);
-        assert_eq!(ran.answer.hints_taken, taken);
-        assert_eq!(ran.answer.hints_used, used);
+        by_rules.run(&mut random, &table, budget);
+        assert_eq!(by_rules.words, ran.held);
+        assert_eq!(ran.answer.rules_fired, by_rules.fired);
+        assert_eq!(ran.answer.hints_taken, by_rules.taken);
+        assert_eq!(ran.answer.hints_used, by_rules.used);
     }
 }
 
