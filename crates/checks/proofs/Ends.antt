@@ -8,8 +8,7 @@ use Rattle.rules.proofs.Demands.{fresh-inv, ends-by}
 use Rattle.rules.specs.Demands.{bound, Ended}
 use Rattle.rules.specs.Rules.{fresh, reached}
 use Rattle.rules.specs.Table.{Table}
-use Rattle.runs.proofs.Rules.{none-closes}
-use Rattle.runs.proofs.Walks.{not-long}
+use Rattle.runs.proofs.Walks.{none-closes, not-long}
 use Rattle.tables.proofs.Files.{listing-is}
 use Rattle.tables.specs.Control.{controlOf}
 use Rattle.tables.specs.Format.{Listing, taken, listing}

@@ -20,6 +20,7 @@ use Rattle.rules.specs.Runs as rules
 use Rattle.rules.specs.Runs.{run, walk}
 use Rattle.rules.specs.Table.{Table}
 use Rattle.runs.specs.Hints.{hintsFrom, hintsAt}
+use Rattle.entries.specs.Refusal.{entryRefusal}
 use Rattle.runs.specs.Promises.{freshRefusal, FreshPromise, runRefusal, lengthsOk, runAnswer, ran, setAfter, walkAfter, Answered, RunPromise}
 use Rattle.runs.specs.Said.{safe-with, reached-with, said}
 use Rattle.runs.specs.declared.Outcome.{Outcome}
@@ -77,7 +78,7 @@ module _ {c : Control} (g : Sought c) where
 
   -- a run from a fresh run buffer is not refused
   not-refused : runRefusal t (encode (fresh t)) true ≡ 0
-  unfolding runRefusal
+  unfolding entryRefusal
   not-refused =
       rw (eq-eqb (length (encode (fresh t))) 2066 (encode-length (fresh t)), eq-eqb (length (t .rows)) 1024 (g .rows), g .range, g .sound, kept-accepts t big (fresh t) (fresh-inv t big) (fresh-normal t big))
 

@@ -8,6 +8,7 @@ ghost use Rattle.listings.specs.Said.{Lists};
 ghost use Rattle.checks.specs.Check.{tableListing, checkListing};
 ghost use Rattle.checks.specs.Steps.{Sought, answerWanted};
 use listings::Listed;
+use moves::Model;
 use runs::Outcome;
 use runs::RunAnswer;
 use sets::StateSet;
@@ -66,18 +67,13 @@ fn search(r: Reading, moves: &[u64], angles: &[i16], modes: &[u8], out: &mut [u8
     let n = r.n;
     let starts = r.starts;
     let safe = r.safe;
-    runs::fresh(n, &mut held);
-    let a = runs::run(
-        moves,
-        n,
+    let model = Model {
+        size: n,
         starts,
         safe,
-        &mut held,
-        &[],
-        budget(n),
-        &mut set,
-        &mut walk,
-    );
+    };
+    runs::fresh(n, &mut held);
+    let a = runs::run(moves, model, &mut held, &[], budget(n), &mut set, &mut walk);
     list(r, a, StateSet::read(&set, 0), &walk, angles, modes, out)
 }
 

@@ -19,6 +19,7 @@ ghost use Rattle.tables.specs.Said.{saidWritten};
 ghost use Rattle.listings.specs.Said.{said as saidListed};
 ghost use Rattle.lampferret.specs.Boundary.{kept, number, inWords, ruleNumber, answerWords, Gives, SetGiven, SingleGiven, RunGiven, ReadGiven, WriteGiven, ListGiven};
 use listings::Listed;
+use moves::Model;
 use runs::Asked;
 use runs::Outcome;
 use runs::Rule;
@@ -173,14 +174,14 @@ pub extern "C" fn lampferret_single(
 ) -> u8
     ensures { λ r. ⌜ SingleGiven (table n (now (starts .entry)) (now (safe .entry)) (now (moves .entry))) (now (proposal .entry)) (now (run .entry)) (now (run .exit)) (now (rule .entry)) (now (rule .exit)) r ⌝ }
 {
-    let a = runs::single(
-        moves,
-        n,
-        set_of(starts),
-        set_of(safe),
-        run,
-        set_of(proposal),
-    );
+    let i = set_of(starts);
+    let p = set_of(safe);
+    let model = Model {
+        size: n,
+        starts: i,
+        safe: p,
+    };
+    let a = runs::single(moves, model, run, set_of(proposal));
     give_rule(a, rule)
 }
 
@@ -227,17 +228,14 @@ pub extern "C" fn lampferret_run(
 ) -> u8
     ensures { λ r. ⌜ RunGiven (table n (now (starts .entry)) (now (safe .entry)) (now (moves .entry))) (now (hints .entry)) budget (now (run .entry)) (now (run .exit)) (now (set .entry)) (now (set .exit)) (now (walk .entry)) (now (walk .exit)) (now (answer .entry)) (now (answer .exit)) r ⌝ }
 {
-    let a = runs::run(
-        moves,
-        n,
-        set_of(starts),
-        set_of(safe),
-        run,
-        hints,
-        budget,
-        set,
-        walk,
-    );
+    let i = set_of(starts);
+    let p = set_of(safe);
+    let model = Model {
+        size: n,
+        starts: i,
+        safe: p,
+    };
+    let a = runs::run(moves, model, run, hints, budget, set, walk);
     give_answer(a, answer)
 }
 

@@ -1,20 +1,25 @@
 -- f and g row by row, as the loops work them out; on sound rows they are f and g.
-use Prim.Native.Nat.{ℕ, suc, _+_, _-_, _*_, _≤_, _<_, min}
+use Prim.Native.Nat.{ℕ, suc, _+_, _-_, _*_, _%_, _^_, _≤_, _<_, min}
+use native.Mathlib.Nat.{zero-mul}
 use native.Mathlib.Numerals.{add-one}
 use native.Mathlib.Omega.{arith}
 use mathlib.Core.Bool.{Bool, true, false, not, _&&_, _||_, or-false}
 use mathlib.Core.List.{List, [], _∷_}
 use mathlib.Core.Logic.{_⊎_, inl, inr, _≢_}
 use mathlib.Core.Path.{_≡_, refl, sym, ap, _∙_}
-use borrow.Author.Tests.{lt-ltb, ne-eqb}
+use borrow.Author.Tests.{lt-ltb, eq-eqb, ne-eqb}
+use lib.Bits.{bitOr, or-lt, or-zero-r}
 use lib.Dec.{ltb, eqb}
-use Rattle.moves.specs.Wide.{forward256, backward256}
+use lib.Pow.{pow-lt}
+use Rattle.moves.specs.Wide.{forward256, backward256, endsIn}
 use Rattle.rules.specs.Table.{row, leads, soundRow, soundRows, forward, backward}
 use Rattle.sets.proofs.Members.{member-of, member-past, set-ext, set-pad, member-empty, proper-of, proper-empty, proper-ext, proper-up}
 use Rattle.sets.proofs.Search.{any-says, all-says, any-suc, all-stop}
 use Rattle.sets.proofs.Tests.{passed, passes, fails, clash, and-true, implies, implied, eqb-says, leb-says, lt-or-ge, same-or, Says, pass, fail}
 use Rattle.sets.specs.Search.{least, found, any, all}
-use Rattle.sets.specs.Sets.{join, Set, member, pack, wordOf, setOf, empty, within, sound, with}
+use Rattle.sets.proofs.Bits.{bit-or, bit-power, pack-of, pack-lt, pack-out, pack-pad, bit-pack}
+use Rattle.sets.proofs.Words.{one-shl}
+use Rattle.sets.specs.Sets.{join, Set, member, bit, pack, wordOf, setOf, empty, within, sound, quad}
 
 -- ---- f
 pub forward-none : (rows : List ℕ) (x : Set) → 0 ∷ 0 ∷ 0 ∷ 0 ∷ [] ≡ forward256 0 rows x
@@ -33,76 +38,72 @@ unfolding forward256
 forward-out rows x s e = set-ext 256 _ _ (λ u l. rw (add-one, any-suc, e) (sym (or-false _)))
 
 -- ---- g
--- a set of more than 256 states is one of 256
-set-wide : (N : ℕ) (p : ℕ → Bool) → 256 ≤ N → setOf N p ≡ setOf 256 p
-unfolding setOf wordOf
-set-wide N p h = rw (word 0 (omega arith), word 1 (omega arith), word 2 (omega arith), word 3 (omega arith))
-  where
-    word : (q : ℕ) → q < 4 → min (N - q * 64) 64 ≡ 64
-    word q l = omega arith
+pack-none : (p : ℕ → Bool) → 0 ≡ pack 0 p
+unfolding pack
+pack-none p = refl
 
-member-below : (N : ℕ) → N ≤ 256 → (p : ℕ → Bool) (u : ℕ) → member (setOf N p) u ≡ (ltb u N && p u)
-member-below N big p u = go (leb-says (suc u) N)
-  where
-    go : {b : Bool} → Says (u < N) (N < suc u) b → member (setOf N p) u ≡ (b && p u)
-    go (pass l) = member-of N big p u l
-    go (fail l) = member-past N p u (omega arith)
+-- a word with one state more
+module _ (k : ℕ) (p : ℕ → Bool) where
+  pack-in : p k ≡ true → bitOr (pack k p) (2 ^ k) ≡ pack (k + 1) p
+  pack-in e =
+      pack-of (k + 1) _ p (or-lt (k + 1) (pack k p) (2 ^ k) (omega (arith, pack-lt k p, up)) up)
+      (λ i l. bit-or (pack k p) (2 ^ k) i ∙ at i (lt-or-ge i k) l)
+    where
+      up : 2 ^ k < 2 ^ (k + 1)
+      up = pow-lt (omega arith)
 
--- one more below the bound
-last-in : (u s : ℕ) (p : ℕ → Bool) → p s ≡ true → ((ltb u s && p u) || eqb u s) ≡ (ltb u (s + 1) && p u)
-last-in u s p e = go (leb-says (suc u) s) (eqb-says u s) (leb-says (suc u) (s + 1))
-  where
-    go : {a b c : Bool} → Says (u < s) (s < suc u) a → Says (u ≡ s) (u ≢ s) b → Says (u < s + 1) (s + 1 < suc u) c → ((a && p u) || b) ≡ (c && p u)
-    go (pass h) (pass q) r = absurd (omega arith)
-    go (pass h) (fail q) (pass r) = or-false (p u)
-    go (pass h) (fail q) (fail r) = absurd (omega arith)
-    go (fail h) (pass q) (pass r) = rw q (sym e)
-    go (fail h) (pass q) (fail r) = absurd (omega arith)
-    go (fail h) (fail q) (pass r) = absurd (q (omega arith))
-    go (fail h) (fail q) (fail r) = refl
+      at : (i : ℕ) → (i < k) ⊎ (k ≤ i) → i < k + 1 → (bit (pack k p) i || bit (2 ^ k) i) ≡ p i
+      at i (inl h) l = rw (bit-pack k p i h, bit-power k i, ne-eqb i k (λ (q : i ≡ k). omega arith)) (or-false (p i))
+      at i (inr h) l = let q : i ≡ k = omega arith in rw (q, pack-out k p k (omega arith), bit-power k k, eq-eqb k k refl) (sym e)
 
-last-out : (u s : ℕ) (p : ℕ → Bool) → p s ≡ false → (ltb u s && p u) ≡ (ltb u (s + 1) && p u)
-last-out u s p e = go (leb-says (suc u) s) (same-or u s) (leb-says (suc u) (s + 1))
-  where
-    go : {a c : Bool} → Says (u < s) (s < suc u) a → (u ≡ s) ⊎ (u ≢ s) → Says (u < s + 1) (s + 1 < suc u) c → (a && p u) ≡ (c && p u)
-    go (pass h) q (pass r) = refl
-    go (pass h) q (fail r) = absurd (omega arith)
-    go (fail h) (inl q) (pass r) = rw q (sym e)
-    go (fail h) (inr q) (pass r) = absurd (q (omega arith))
-    go (fail h) q (fail r) = refl
+  pack-skip : p k ≡ false → pack k p ≡ pack (k + 1) p
+  pack-skip e = pack-pad k (k + 1) p (omega arith) (λ j h l. let q : j ≡ k = omega arith in rw q e)
 
-module _ (p : ℕ → Bool) (s : ℕ) where
-  with-more : p s ≡ true → with 256 (setOf s p) s ≡ setOf (s + 1) p
-  unfolding with
-  with-more e = elim (lt-or-ge s 256) [
-    | inl l ↦
-        proper-ext 256 (omega arith) (proper-of 256 (omega arith) _) (proper-up (s + 1) (omega arith) (proper-of (s + 1) (omega arith) p))
-        (λ u m. member-of 256 (omega arith) (λ u. member (setOf s p) u || eqb u s) u m
-        ∙ ap (λ b. b || eqb u s) (member-below s (omega arith) p u) ∙ last-in u s p e ∙ sym (member-below (s + 1) (omega arith) p u))
-    | inr l ↦
-        rw (set-wide s p l, set-wide (s + 1) p (omega arith))
-        (set-ext 256 _ p (λ u m. rw (ne-eqb u s (λ (q : u ≡ s). omega arith), member-of 256 (omega arith) p u m) (or-false (p u))))
-  ]
+  -- as the loop does it: b is 1 for a state that passes, else 0
+  pack-step : (k < 64) → (b : ℕ) → ((b ≡ 1) × (p k ≡ true)) ⊎ ((b ≡ 0) × (p k ≡ false)) → (w : ℕ) → w ≡ pack k p
+      → bitOr w (b * 2 ^ k % 18446744073709551616) ≡ pack (k + 1) p
+  pack-step l b (inl h) w e = rw (h .0, one-shl k l, e) (pack-in (h .1))
+  pack-step l b (inr h) w e = rw (h .0, zero-mul, or-zero-r, e) (pack-skip (h .1))
 
-  skip-more : p s ≡ false → setOf s p ≡ setOf (s + 1) p
-  skip-more e = elim (lt-or-ge s 256) [
-    | inl l ↦
-        proper-ext 256 (omega arith) (proper-up s (omega arith) (proper-of s (omega arith) p)) (proper-up (s + 1) (omega arith) (proper-of (s + 1) (omega arith) p))
-        (λ u m. member-below s (omega arith) p u ∙ last-out u s p e ∙ sym (member-below (s + 1) (omega arith) p u))
-    | inr l ↦ set-wide s p l ∙ sym (set-wide (s + 1) p (omega arith))
-  ]
+ends-in : (rows : List ℕ) (x : Set) (s : ℕ) → within 256 (row rows s) x ≡ endsIn rows x s
+unfolding endsIn within leads
+ends-in rows x s = refl
 
-pub backward-none : (rows : List ℕ) (x : Set) → 0 ∷ 0 ∷ 0 ∷ 0 ∷ [] ≡ backward256 0 rows x
-unfolding backward256 setOf wordOf pack
-backward-none rows x = refl
+-- the row that the code reads
+ends-at : (rows : List ℕ) (x r : Set) (at s : ℕ) → at ≡ 4 * s → r ≡ quad rows at → within 256 r x ≡ endsIn rows x s
+ends-at rows x r at s e q = rw (q, e) (ends-in rows x s)
 
-pub backward-in : (rows : List ℕ) (x : Set) (s : ℕ) → within 256 (row rows s) x ≡ true → with 256 (backward256 s rows x) s ≡ backward256 (s + 1) rows x
-unfolding backward256 within leads
-backward-in rows x s e = with-more (λ s. all 256 (λ u. not (member (row rows s) u) || member x u)) s e
+-- the loop of word q at its state k: w holds the states before it all of whose moves end in x
+pub record Packing (rows : List ℕ) (x : Set) (q m w k : ℕ) : Type 0 where
+  pub in-range : k ≤ m
+  pub packed : w ≡ pack k (λ i. endsIn rows x (q * 64 + i))
 
-pub backward-out : (rows : List ℕ) (x : Set) (s : ℕ) → within 256 (row rows s) x ≡ false → backward256 s rows x ≡ backward256 (s + 1) rows x
-unfolding backward256 within leads
-backward-out rows x s e = skip-more (λ s. all 256 (λ u. not (member (row rows s) u) || member x u)) s e
+module _ (rows : List ℕ) (x : Set) (q m : ℕ) where
+  pub pack-begins : Packing rows x q m 0 0
+  pack-begins = record { in-range = omega arith; packed = pack-none _ }
+
+  -- r is the row of the state, and b is 1 where it is within x, else 0
+  pub pack-goes : {w k b at : ℕ} {r : Set} {i : Bool} → Packing rows x q m w k → k < m → k < 64 → at ≡ 4 * (q * 64 + k) → r ≡ quad rows at
+      → i ≡ within 256 r x → ((b ≡ 1) × (i ≡ true)) ⊎ ((b ≡ 0) × (i ≡ false))
+      → Packing rows x q m (bitOr w (b * 2 ^ k % 18446744073709551616)) (k + 1)
+  pack-goes {w} {k} {b} {at} {r} {i} v l l′ ea er ei h =
+      let is : endsIn rows x (q * 64 + k) ≡ i = sym (ei ∙ ends-at rows x r at (q * 64 + k) ea er) in
+      record {
+        in-range = omega arith;
+        packed = pack-step k _ l′ b (elim h [ inl y ↦ inl (y .0, is ∙ y .1) | inr y ↦ inr (y .0, is ∙ y .1) ]) w (v .packed);
+      }
+
+  -- the word is done where its count is
+  pub pack-ends : (n w k : ℕ) → Packing rows x q m w k → m ≡ min (n - q * 64) 64 → m ≤ k → w ≡ wordOf n (endsIn rows x) q
+  unfolding wordOf
+  pack-ends n w k v e l =
+      let done : k ≡ min (n - q * 64) 64 = omega (arith, v .in-range) in
+      v .packed ∙ rw done
+
+pub four-words : (n : ℕ) (rows : List ℕ) (x : Set) (a b c d : ℕ) → a ≡ wordOf n (endsIn rows x) 0 → b ≡ wordOf n (endsIn rows x) 1
+    → c ≡ wordOf n (endsIn rows x) 2 → d ≡ wordOf n (endsIn rows x) 3 → a ∷ b ∷ c ∷ d ∷ [] ≡ backward256 n rows x
+unfolding backward256 setOf endsIn
+four-words n rows x a b c d ea eb ec ed = rw (ea, eb, ec, ed)
 
 -- ---- on sound rows
 module _ (N : ℕ) (rows : List ℕ) (big : N ≤ 256) (ok : soundRows N rows ≡ true) where

@@ -1,6 +1,6 @@
 -- f and g on all 256 places, for a table whose soundness is not tested; on sound rows they are f and g.
 use Prim.Native.Nat.{ℕ}
-use mathlib.Core.Bool.{not, _&&_, _||_}
+use mathlib.Core.Bool.{Bool, not, _&&_, _||_}
 use mathlib.Core.List.{List}
 use Rattle.sets.specs.Search.{any, all}
 use Rattle.sets.specs.Sets.{Set, member, setOf}
@@ -13,3 +13,7 @@ forward256 N rows x = setOf 256 (λ u. any N (λ s. member x s && leads rows s u
 -- every state below N all of whose moves, to any number below 256, end in x
 unfoldable pub backward256 : ℕ → List ℕ → Set → Set
 backward256 N rows x = setOf N (λ s. all 256 (λ u. not (leads rows s u) || member x u))
+
+-- all moves of s, to any number below 256, end in x
+unfoldable pub endsIn : List ℕ → Set → ℕ → Bool
+endsIn rows x s = all 256 (λ u. not (leads rows s u) || member x u)

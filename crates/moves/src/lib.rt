@@ -4,9 +4,19 @@
 // have made it once; they answer for any words all the same.
 use sets::StateSet;
 ghost use mathlib.Core.Path.{_≡_};
-ghost use Rattle.rules.specs.Table.{table, soundTable, soundRows, soundRow, forward as f, backward as g};
-ghost use Rattle.moves.specs.Wide.{forward256, backward256};
+ghost use Prim.Native.Nat.{_-_, _<_, min};
+ghost use Rattle.sets.specs.Sets.{wordOf};
+ghost use Rattle.rules.specs.Table.{soundTable, soundRows, soundRow, forward as f, backward as g};
+ghost use Rattle.moves.specs.Models.{on};
+ghost use Rattle.moves.specs.Wide.{forward256, backward256, endsIn};
 ghost use Rattle.moves.specs.Said.{Answers, moveRefusal};
+
+// A controller but for its moves: N, the starts I and the safe states P.
+pub struct Model {
+    pub size: u16,
+    pub starts: StateSet,
+    pub safe: StateSet,
+}
 
 // What f and g answer: a refusal number, 0 for none, and the set, empty where refused.
 pub struct Moved {
@@ -35,13 +45,14 @@ pub fn sound_rows(moves: &[u64], n: u16) -> bool
 }
 
 // Whether the table is sound: the starts, the safe states and all rows.
-pub fn sound_table(moves: &[u64], n: u16, starts: StateSet, safe: StateSet) -> bool
-    ensures { λ r. ⌜ r ≡ soundTable (table n (starts .words) (safe .words) (now (moves .entry))) ⌝ }
+pub fn sound_table(moves: &[u64], model: Model) -> bool
+    ensures { λ r. ⌜ r ≡ soundTable (on model (now (moves .entry))) ⌝ }
 {
-    if !starts.sound(n) {
+    let n = model.size;
+    if !model.starts.sound(n) {
         return false;
     }
-    if !safe.sound(n) {
+    if !model.safe.sound(n) {
         return false;
     }
     sound_rows(moves, n)
@@ -60,17 +71,45 @@ pub fn forward(moves: &[u64], n: u16, x: StateSet) -> StateSet
     acc
 }
 
+// How many of the 64 states from `from` up are below n.
+fn below(n: u16, from: u16) -> u16
+    ensures { λ r. ⌜ r ≡ min (n - from) 64 ⌝ }
+{
+    if n <= from {
+        return 0;
+    }
+    let d = n - from;
+    if d < 64 { d } else { 64 }
+}
+
+// Word q of g, with no test.
+fn backward_word(moves: &[u64], n: u16, q: u16, x: StateSet) -> u64
+    requires { ⌜ q < 4 ⌝ }
+    ensures { λ r. ⌜ r ≡ wordOf n (endsIn (now (moves .entry)) (x .words)) q ⌝ }
+{
+    let from = 64 * q;
+    let m = below(n, from);
+    let mut w: u64 = 0;
+    for k in 0..m {
+        let row = StateSet::read(moves, 4 * ((from + k) as usize));
+        let b: u64 = if row.within(x) { 1 } else { 0 };
+        w |= b << k;
+    }
+    w
+}
+
 // g, with no test: every state below n all of whose moves end in x.
 pub fn backward(moves: &[u64], n: u16, x: StateSet) -> StateSet
     ensures { λ r. ⌜ r .words ≡ backward256 n (now (moves .entry)) (x .words) ⌝ }
 {
-    let mut acc = StateSet::EMPTY;
-    for s in 0..n {
-        if StateSet::read(moves, 4 * (s as usize)).within(x) {
-            acc = acc.with(s);
-        }
+    StateSet {
+        words: [
+            backward_word(moves, n, 0, x),
+            backward_word(moves, n, 1, x),
+            backward_word(moves, n, 2, x),
+            backward_word(moves, n, 3, x),
+        ],
     }
-    acc
 }
 
 // The refusal of f and g: 7, 2, 13, or 0 for none.

@@ -1,14 +1,14 @@
 -- f and g: members, monotone, adjoint.
 use Prim.Native.Nat.{ℕ, _≤_, _<_}
-use mathlib.Core.Bool.{true, not, _&&_, _||_}
+use mathlib.Core.Bool.{Bool, true, not, _&&_, _||_}
 use mathlib.Core.Logic.{_↔_}
-use mathlib.Core.Path.{_≡_, sym, _∙_}
+use mathlib.Core.Path.{_≡_, refl, sym, _∙_}
 use Rattle.rules.specs.Table.{leads, forward, backward, f, g, Table}
 use Rattle.sets.proofs.Members.{member-of, member-empty}
 use Rattle.sets.proofs.Search.{any-says, all-says}
-use Rattle.sets.proofs.Tests.{passed, passes, clash, and-true, and-intro, implies, implied}
-use Rattle.sets.proofs.Within.{within-refl, within-trans, Within}
-use Rattle.sets.specs.Sets.{Set, member, empty}
+use Rattle.sets.proofs.Tests.{Says, pass, fail, passed, passes, clash, and-true, and-intro, implies, implied}
+use Rattle.sets.proofs.Within.{within-says, not-both, within-refl, within-trans, Within, Beyond}
+use Rattle.sets.specs.Sets.{Set, member, empty, within}
 
 module _ (t : Table) (big : t .size ≤ 256) where
   abbrev _⊑_ : Set → Set → Type 0
@@ -49,6 +49,16 @@ module _ (t : Table) (big : t .size ≤ 256) where
   -- f(X) is within Y exactly when X is within g(Y)
   pub forward-backward : (x y : Set) → (f t x ⊑ y) ↔ (x ⊑ g t y)
   forward-backward x y = (to-g x y, of-g x y)
+
+  -- the same of the tests
+  pub forward-backward-test : (x y : Set) → within (t .size) (f t x) y ≡ within (t .size) x (g t y)
+  forward-backward-test x y = go (within-says (t .size) (f t x) y) (within-says (t .size) x (g t y))
+    where
+      go : {a b : Bool} → Says (f t x ⊑ y) (Beyond (t .size) (f t x) y) a → Says (x ⊑ g t y) (Beyond (t .size) x (g t y)) b → a ≡ b
+      go (pass h) (pass k) = refl
+      go (pass h) (fail k) = absurd (not-both (t .size) (to-g x y h) k)
+      go (fail h) (pass k) = absurd (not-both (t .size) (of-g x y k) h)
+      go (fail h) (fail k) = refl
 
   pub f-mono : (x y : Set) → x ⊑ y → f t x ⊑ f t y
   f-mono x y h = of-g x (f t y) (within-trans (t .size) h (to-g y (f t y) (within-refl (t .size))))

@@ -65,18 +65,18 @@ module _ (s : State) where
 four-words : (N : ℕ) (x : Set) → Proper N x → getD x 0 0 ∷ getD x 1 0 ∷ getD x 2 0 ∷ getD x 3 0 ∷ [] ≡ x
 four-words N x h = sym (four-of x (proper-length N x h))
 
-module _ (t : Table) (s : State) (m : Normal t s) (big : s .n ≤ 258) where
+module _ (N : ℕ) (s : State) (m : Normal N s) (big : s .n ≤ 258) where
   pub quad-x : (j : ℕ) → j < 258 → quad (encode s) (2 + 4 * j) ≡ s .x j
   unfolding quad
   quad-x j l =
       rw (at-x s j 0 (2 + 4 * j) l (omega arith) (omega arith), at-x s j 1 (2 + 4 * j + 1) l (omega arith) (omega arith), at-x s j 2 (2 + 4 * j + 2) l (omega arith) (omega arith), at-x s j 3 (2 + 4 * j + 3) l (omega arith) (omega arith))
-      (four-words (t .size) (s .x j) (m .proper-x j))
+      (four-words N (s .x j) (m .proper-x j))
 
   pub quad-y : (j : ℕ) → j < 258 → quad (encode s) (1034 + 4 * j) ≡ s .y j
   unfolding quad
   quad-y j l =
       rw (at-y s j 0 (1034 + 4 * j) l (omega arith) (omega arith), at-y s j 1 (1034 + 4 * j + 1) l (omega arith) (omega arith), at-y s j 2 (1034 + 4 * j + 2) l (omega arith) (omega arith), at-y s j 3 (1034 + 4 * j + 3) l (omega arith) (omega arith))
-      (four-words (t .size) (s .y j) (m .proper-y j))
+      (four-words N (s .y j) (m .proper-y j))
 
   -- a buffer holds the state that it was made of
   pub decode-encode : decode (encode s) ≡ s

@@ -11,7 +11,7 @@ use borrow.Author.Tests.{ne-eqb}
 use Rattle.rules.proofs.Invariant.{put-other, cut-low, Open, Invariant}
 use Rattle.rules.proofs.Keep.{due-is, Ok, allowed-ok, few-sets, house-ok, cut-sub, keep, Due, isUnfold, isCandidate, isDecide, isConflict}
 use Rattle.rules.specs.Rules.{noRoom, put, cut, conclusion, due, allowed, house, fire, State, Result, Rule, safe, reached, unfinished, Unfold, Candidate, Decide, Conflict}
-use Rattle.rules.specs.Runs.{pick, stop, asks, offered, after, willDo, choose, next, lacksRoom, run, Outcome}
+use Rattle.rules.specs.Runs.{pick, stop, asks, offered, after, willDo, choose, next, lacksRoom, lacksRoomFor, run, Outcome}
 use Rattle.rules.specs.Table.{f, Table}
 use Rattle.sets.proofs.Count.{count-le, count-lt, count-max, count-none}
 use Rattle.sets.proofs.Search.{sum-le, sum-lt}
@@ -64,7 +64,7 @@ module _ (t : Table) where
   module _ (big : t .size ≤ 256) where
     -- refusal 11 never comes: an open run has a place for another set
     pub has-room : (s : State) → Invariant t s → Open t s → lacksRoom t s ≡ false
-    unfolding lacksRoom
+    unfolding lacksRoomFor
     has-room s v o = rw (ne-eqb (s .n) 258 (λ (e : s .n ≡ 258). omega (arith, few-sets t s v o))) (and-false (not (asks (due t s))))
 
     -- one rule of a run that has not concluded
@@ -73,7 +73,7 @@ module _ (t : Table) where
     unfolding run
     run-open b hs s v o = rw (o, has-room s v o, run)
 
-    drop-unfold : (s : State) (z : Set) → Invariant t s → Open t s → Due t s Unfold → weight (fire t Unfold s z) < weight s
+    drop-unfold : (s : State) (z : Set) → Invariant t s → Open t s → Due t s Unfold → weight (fire (t .size) Unfold s z) < weight s
     unfolding fire weight
     drop-unfold s z v o (isUnfold p h) =
         let x′ : ℕ → Set = put (s .x) (s .n) (full (t .size)) in
@@ -86,7 +86,7 @@ module _ (t : Table) where
               (λ j l. rw (put-other (s .x) (s .n) (full (t .size)) j (omega arith)) (omega arith)),
         ))
 
-    drop-conflict : (s : State) (z : Set) → Invariant t s → Open t s → Due t s Conflict → Ok t Conflict s z → weight (fire t Conflict s z) < weight s
+    drop-conflict : (s : State) (z : Set) → Invariant t s → Open t s → Due t s Conflict → Ok t Conflict s z → weight (fire (t .size) Conflict s z) < weight s
     unfolding fire weight
     drop-conflict s z v o (isConflict p h) (zy, iz, fz) =
         omega (
@@ -99,7 +99,7 @@ module _ (t : Table) where
               (v .apart (s .k) (omega arith) (omega (arith, v .le)))))),
         )
 
-    drops : (r : Rule) (s : State) (z : Set) → Invariant t s → Open t s → Due t s r → Ok t r s z → weight (fire t r s z) < weight s
+    drops : (r : Rule) (s : State) (z : Set) → Invariant t s → Open t s → Due t s r → Ok t r s z → weight (fire (t .size) r s z) < weight s
     unfolding fire weight
     drops Unfold s z v o d k = drop-unfold s z v o d
     drops Candidate s z v o (isCandidate p h) k = omega (arith, v .two)

@@ -71,7 +71,7 @@ each-no (b ∷ bs) zero e = rw e
 each-no (b ∷ bs) (suc i) e = elim (which b) [ inl h ↦ rw h (each-no bs i e) | inr h ↦ rw h ]
 
 module _ (t : Table) where
-  pub ranges-say : (s : State) → ranges t s ≡ true → (2 ≤ s .n) × (s .n ≤ t .size + 2) × (1 ≤ s .k) × (s .k ≤ s .n)
+  pub ranges-say : (s : State) → ranges (t .size) s ≡ true → (2 ≤ s .n) × (s .n ≤ t .size + 2) × (1 ≤ s .k) × (s .k ≤ s .n)
   unfolding ranges
   ranges-say s e =
       let (c1, (c2, (c3, (c4, _)))) = each-true _ e in

@@ -22,18 +22,18 @@ use Rattle.sets.proofs.Words.{quad-at}
 use Rattle.sets.specs.Search.{all}
 use Rattle.sets.specs.Sets.{Set, member, pack, wordOf, setOf, empty, sound, quad, Proper}
 
+-- the buffer is the words of the state that it holds
+pub record Held (N : ℕ) (b : List ℕ) : Type 0 where
+  pub norm : Normal N (decode b)
+  pub same : encode (decode b) ≡ b
+  pub cap : (decode b) .n ≤ 258
+
 module _ (t : Table) (b : List ℕ) where
   abbrev pub tests : List Bool
   tests = all 258 (keptX (t .size) b) ∷ all 258 (keptY (t .size) b) ∷ conditions t (decode b)
 
-  -- the buffer is the words of the state that it holds
-  pub record Held : Type 0 where
-    pub norm : Normal t (decode b)
-    pub same : encode (decode b) ≡ b
-    pub cap : (decode b) .n ≤ 258
-
   pub record Fit : Type 0 where
-    pub held : Held
+    pub held : Held (t .size) b
     pub inv : Invariant t (decode b)
 
 none-proper : (x : Set) → Proper 256 x → sound 0 x ≡ true → x ≡ empty
@@ -95,7 +95,7 @@ module _ (t : Table) (big : t .size ≤ 256) (b : List ℕ) (len : length b ≡ 
           ]
 
   module _ (cap : (decode b) .n ≤ 258) where
-    pub held-normal : Normal t (decode b)
+    pub held-normal : Normal (t .size) (decode b)
     unfolding decode
     held-normal =
         record {
@@ -111,7 +111,7 @@ module _ (t : Table) (big : t .size ≤ 256) (b : List ℕ) (len : length b ≡ 
         in-use true i h = proper-at true i (h refl)
         in-use false i h = proper-empty (t .size) big
 
-    pub held-by : Held t b
+    pub held-by : Held (t .size) b
     held-by = record { norm = held-normal; same = held-same; cap = cap }
 
 -- a buffer that passes
@@ -123,9 +123,9 @@ fit-by t big b len words ok =
     record { held = held-by t big b len words (p .0) (p .1 .0) (omega (arith, r .1)); inv = entry-inv t (decode b) (true-each (conditions t (decode b)) (p .1 .1)) }
 
 -- a state that the rules keep makes a buffer that fits
-module _ (t : Table) (big : t .size ≤ 256) (s : State) (v : Invariant t s) (m : Normal t s) where
+module _ (t : Table) (big : t .size ≤ 256) (s : State) (v : Invariant t s) (m : Normal (t .size) s) where
   pub held-back : decode (encode s) ≡ s
-  held-back = decode-encode t s m (omega (arith, v .cap))
+  held-back = decode-encode (t .size) s m (omega (arith, v .cap))
 
   pub fit-of : Fit t (encode s)
   fit-of =
@@ -135,7 +135,7 @@ module _ (t : Table) (big : t .size ≤ 256) (s : State) (v : Invariant t s) (m 
       }
 
 -- a state that the rules keep makes a buffer that passes
-module _ (t : Table) (big : t .size ≤ 256) (s : State) (v : Invariant t s) (m : Normal t s) where
+module _ (t : Table) (big : t .size ≤ 256) (s : State) (v : Invariant t s) (m : Normal (t .size) s) where
   room : s .n ≤ 258
   room = omega (arith, v .cap)
 
@@ -164,11 +164,11 @@ module _ (t : Table) (big : t .size ≤ 256) (s : State) (v : Invariant t s) (m 
 
   kept-x : (j : ℕ) → j < 258 → keptX (t .size) (encode s) j ≡ true
   unfolding keptX
-  kept-x j l = rw (encode-n s, quad-x t s m room j l) (kept-at (ltb j (s .n)) (s .x j) (m .proper-x j) (gone-x j))
+  kept-x j l = rw (encode-n s, quad-x (t .size) s m room j l) (kept-at (ltb j (s .n)) (s .x j) (m .proper-x j) (gone-x j))
 
   kept-y : (j : ℕ) → j < 258 → keptY (t .size) (encode s) j ≡ true
   unfolding keptY
-  kept-y j l = rw (encode-n s, encode-k s, quad-y t s m room j l) (kept-at (leb (s .k) j && ltb j (s .n)) (s .y j) (m .proper-y j) (gone-y j))
+  kept-y j l = rw (encode-n s, encode-k s, quad-y (t .size) s m room j l) (kept-at (leb (s .k) j && ltb j (s .n)) (s .y j) (m .proper-y j) (gone-y j))
 
   entry-tests : Each (conditions t s)
   entry-tests = each-true (conditions t s) (inv-entry t s v)

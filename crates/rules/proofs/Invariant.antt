@@ -6,7 +6,7 @@ use mathlib.Core.Logic.{_≢_}
 use mathlib.Core.Option.{Option, none, some}
 use mathlib.Core.Path.{_≡_, refl}
 use borrow.Author.Tests.{eq-eqb}
-use Rattle.rules.specs.Rules.{put, cut, concludes, closes, conclusion, State, unfinished}
+use Rattle.rules.specs.Rules.{put, cut, concludes, closes, conclusion, conclusionOf, State, unfinished}
 use Rattle.rules.specs.Table.{f, g, Table}
 use Rattle.sets.proofs.Search.{least-is, Least, here, nowhere}
 use Rattle.sets.proofs.Tests.{passes, fails, not-false, eqb-says, leb-says}
@@ -60,11 +60,11 @@ module _ (t : Table) where
 
   -- what a run that has not concluded knows
   pub open-up : (s : State) → Open s → (j : ℕ) → suc j < s .n → Beyond (t .size) (s .x (suc j)) (s .x j)
-  unfolding conclusion concludes closes
+  unfolding conclusionOf concludes closes
   open-up s o j lt =
-      go (least (s .n - 1) (closes t s)) _ (least-is (s .n - 1) (closes t s)) o
+      go (least (s .n - 1) (closes (t .size) s)) _ (least-is (s .n - 1) (closes (t .size) s)) o
     where
-      go : (r : Option ℕ) (b : Bool) → Least (s .n - 1) (closes t s) r → concludes r b ≡ unfinished
+      go : (r : Option ℕ) (b : Bool) → Least (s .n - 1) (closes (t .size) s) r → concludes r b ≡ unfinished
           → Beyond (t .size) (s .x (suc j)) (s .x j)
       go r b (here i l e h) q = let z : _≡_ {A = ℕ} 0 1 = cc in absurd (omega arith)
       go r b (nowhere h) q = is-beyond (t .size) (s .x (suc j)) (s .x j) (h j (omega arith))
@@ -76,7 +76,7 @@ module _ (t : Table) where
   start-tested none false q = refl
 
   pub open-start : (s : State) → Open s → s .k ≡ 1 → Within (t .size) (t .starts) (s .y 1)
-  unfolding conclusion
+  unfolding conclusionOf
   open-start s o e =
       let q = start-tested _ _ o in
       is-within (t .size) (t .starts) (s .y 1) (not-false _ (rw e at q))

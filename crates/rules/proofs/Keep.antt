@@ -120,7 +120,7 @@ module _ (t : Table) where
           | inr l ↦ rw (put-other x n (full (t .size)) j (omega arith)) (h (omega arith))
         ]
 
-    keep-unfold : (s : State) (z : Set) → Invariant t s → Open t s → Due s Unfold → Invariant t (fire t Unfold s z)
+    keep-unfold : (s : State) (z : Set) → Invariant t s → Open t s → Due s Unfold → Invariant t (fire (t .size) Unfold s z)
     unfolding fire
     keep-unfold s z v o (isUnfold p h) =
         let old : (j : ℕ) → j < s .n → put (s .x) (s .n) (full (t .size)) j ≡ s .x j
@@ -140,7 +140,7 @@ module _ (t : Table) where
           apart = λ j a e. absurd (omega arith);
         }
 
-    keep-candidate : (s : State) (z : Set) → Invariant t s → Open t s → Due s Candidate → Ok Candidate s z → Invariant t (fire t Candidate s z)
+    keep-candidate : (s : State) (z : Set) → Invariant t s → Open t s → Due s Candidate → Ok Candidate s z → Invariant t (fire (t .size) Candidate s z)
     unfolding fire
     keep-candidate s z v o (isCandidate p h) k =
         record {
@@ -158,7 +158,7 @@ module _ (t : Table) where
           apart = λ j a e. let q : j ≡ s .n - 1 = omega arith in rw (q, put-same) (k .1);
         }
 
-    keep-decide : (s : State) (z : Set) → Invariant t s → Open t s → Due s Decide → Ok Decide s z → Invariant t (fire t Decide s z)
+    keep-decide : (s : State) (z : Set) → Invariant t s → Open t s → Due s Decide → Ok Decide s z → Invariant t (fire (t .size) Decide s z)
     unfolding fire
     keep-decide s z v o (isDecide p h) k =
         record {
@@ -207,7 +207,7 @@ module _ (t : Table) where
           | inr l ↦ rw (cut-low (t .size) x k z j l) (within-meet (t .size) big w (x j) z h (h′ l))
         ]
 
-    keep-conflict : (s : State) (z : Set) → Invariant t s → Open t s → Due s Conflict → Ok Conflict s z → Invariant t (fire t Conflict s z)
+    keep-conflict : (s : State) (z : Set) → Invariant t s → Open t s → Due s Conflict → Ok Conflict s z → Invariant t (fire (t .size) Conflict s z)
     unfolding fire
     keep-conflict s z v o (isConflict p h) (zy, iz, fz) =
         record {
@@ -232,7 +232,7 @@ module _ (t : Table) where
         old : (j : ℕ) → s .k < j → put (s .y) (s .k) empty j ≡ s .y j
         old j l = put-other (s .y) (s .k) empty j (omega arith)
 
-    pub keep : (r : Rule) (s : State) (z : Set) → Invariant t s → Open t s → Due s r → Ok r s z → Invariant t (fire t r s z)
+    pub keep : (r : Rule) (s : State) (z : Set) → Invariant t s → Open t s → Due s r → Ok r s z → Invariant t (fire (t .size) r s z)
     keep Unfold s z v o d k = keep-unfold s z v o d
     keep Candidate s z v o d k = keep-candidate s z v o d k
     keep Decide s z v o d k = keep-decide s z v o d k

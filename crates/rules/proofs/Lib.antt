@@ -8,6 +8,10 @@ pub mod Entry
 pub mod Normal
 pub mod Buffer
 pub mod Held
+pub mod Ready
+pub mod Reading
+pub mod Loops
+pub mod Chains
 pub mod Published
 pub mod Demands
 pub mod Tried

@@ -12,7 +12,7 @@ use lib.ListN.{length}
 use Rattle.rules.proofs.Adjoint.{f-in, g-in}
 use Rattle.rules.proofs.Invariant.{Invariant}
 use Rattle.rules.proofs.Keep.{chain}
-use Rattle.rules.specs.Rules.{noRoom, concludes, closes, conclusion, State, safe, reached}
+use Rattle.rules.specs.Rules.{noRoom, concludes, closes, conclusion, conclusionOf, State, safe, reached}
 use Rattle.rules.specs.Runs.{orZero, firstState, nextState, walkFrom, walk}
 use Rattle.rules.specs.Table.{leads, g, Table}
 use Rattle.rules.specs.Walks.{move, Walked, Bad, BadReached, LeadsToBad, RealWalk, Closed, start, arrived, onward}
@@ -29,10 +29,10 @@ module _ (t : Table) where
     pub is : Within (t .size) (s .x (suc j)) (s .x j)
 
   pub safe-at : (s : State) (j : ℕ) → conclusion t s ≡ safe j → SafeAt s j
-  unfolding conclusion concludes closes
-  safe-at s j e = go _ _ (least-is (s .n - 1) (closes t s)) e
+  unfolding conclusionOf concludes closes
+  safe-at s j e = go _ _ (least-is (s .n - 1) (closes (t .size) s)) e
     where
-      go : (r : Option ℕ) (b : Bool) → Least (s .n - 1) (closes t s) r → concludes r b ≡ safe j → SafeAt s j
+      go : (r : Option ℕ) (b : Bool) → Least (s .n - 1) (closes (t .size) s) r → concludes r b ≡ safe j → SafeAt s j
       go r b (here i l p h) q =
           let d : i ≡ j = cc in
           let a : SafeAt s i = record { lt = omega arith; is = is-within (t .size) (s .x (suc i)) (s .x i) p } in
@@ -42,8 +42,8 @@ module _ (t : Table) where
 
   -- no state concludes for want of room
   pub never-noRoom : (s : State) → conclusion t s ≢ noRoom
-  unfolding conclusion concludes
-  never-noRoom s e = go (least (s .n - 1) (closes t s)) _ e
+  unfolding conclusionOf concludes
+  never-noRoom s e = go (least (s .n - 1) (closes (t .size) s)) _ e
     where
       go : (r : Option ℕ) (b : Bool) → concludes r b ≡ noRoom → ⊥
       go (some j) b q = let z : _≡_ {A = ℕ} 0 1 = cc in omega arith
@@ -57,7 +57,7 @@ module _ (t : Table) where
   concludes-reached none false q = cc
 
   pub reached-at : (s : State) → conclusion t s ≡ reached → (s .k ≡ 1) × Beyond (t .size) (t .starts) (s .y 1)
-  unfolding conclusion
+  unfolding conclusionOf
   reached-at s e =
       let a = and-true (eqb (s .k) 1) (not (within (t .size) (t .starts) (s .y 1))) (concludes-reached _ _ e) in
       (passed (eqb-says (s .k) 1) (a .0), is-beyond (t .size) _ _ (not-true _ (a .1)))

@@ -52,7 +52,7 @@ module _ (t : Table) (big : t .size ≤ 256) where
       go true = proper-meet (x j) z
       go false = h j
 
-  pub fresh-normal : Normal t (fresh t)
+  pub fresh-normal : Normal (t .size) (fresh t)
   unfolding freshOf
   fresh-normal =
       record {
@@ -63,7 +63,7 @@ module _ (t : Table) (big : t .size ≤ 256) where
         y-low = λ j l. refl;
       }
 
-  pub fire-normal : (r : Rule) (s : State) (z : Set) → Invariant t s → Normal t s → Due t s r → Proper (t .size) z → Normal t (fire t r s z)
+  pub fire-normal : (r : Rule) (s : State) (z : Set) → Invariant t s → Normal (t .size) s → Due t s r → Proper (t .size) z → Normal (t .size) (fire (t .size) r s z)
   unfolding fire
   fire-normal Unfold s z v m (isUnfold p h) o =
       record {
@@ -114,24 +114,24 @@ module _ (t : Table) (big : t .size ≤ 256) where
       go false e = (o, w .1)
 
   module _ (proper-safe : Proper (t .size) (t .safe)) where
-    proper-house : (r : Rule) (s : State) → Normal t s → Proper (t .size) (house t r s)
+    proper-house : (r : Rule) (s : State) → Normal (t .size) s → Proper (t .size) (house t r s)
     unfolding house
     proper-house Unfold s m = proper-empty (t .size) big
     proper-house Candidate s m = proper-safe
     proper-house Decide s m = proper-back (s .y (s .k))
     proper-house Conflict s m = m .proper-y (s .k)
 
-    pub proper-choice : (hs : List Set) (s : State) → Words hs → Normal t s → Proper (t .size) ((choose t hs s) .set) × Words ((choose t hs s) .left)
+    pub proper-choice : (hs : List Set) (s : State) → Words hs → Normal (t .size) s → Proper (t .size) ((choose t hs s) .set) × Words ((choose t hs s) .left)
     unfolding choose willDo
     proper-choice hs s w m =
         proper-pick (asks (due t s)) hs (willDo t s) (house t (due t s) s)
         (λ z e. and-true (sound (t .size) z) (allowed t (due t s) s z) e .0) w (proper-house (due t s) s m)
 
-    pub next-normal : (hs : List Set) (s : State) → Words hs → Invariant t s → Normal t s → Normal t (next t (choose t hs s) s)
+    pub next-normal : (hs : List Set) (s : State) → Words hs → Invariant t s → Normal (t .size) s → Normal (t .size) (next t (choose t hs s) s)
     unfolding next
     next-normal hs s w v m = fire-normal (due t s) s _ v m (due-is t s) (proper-choice hs s w m .0)
 
-    pub run-normal : (b : ℕ) (hs : List Set) (s : State) → Invariant t s → Words hs → Normal t s → Normal t ((run t b hs s) .state)
+    pub run-normal : (b : ℕ) (hs : List Set) (s : State) → Invariant t s → Words hs → Normal (t .size) s → Normal (t .size) ((run t b hs s) .state)
     unfolding stop after
-    run-normal = run-ind t big (λ b hs s o. Words hs → Normal t s → Normal t (o .state)) (λ b hs s v d w m. m)
+    run-normal = run-ind t big (λ b hs s o. Words hs → Normal (t .size) s → Normal (t .size) (o .state)) (λ b hs s v d w m. m)
         (λ b hs s o v p q w m. q (proper-choice hs s w m .1) (next-normal hs s w v m))

@@ -63,14 +63,14 @@ module _ (t : Table) where
     in-right x y z h = record { at = λ s l e. h .at s l (member-join (t .size) big x y s l ∙ ap (λ c. member x s || c) e ∙ or-true (member x s)) }
 
     -- the rule due, with a choice allowed, fires
-    due-fires : (s : State) (z : Set) → s .k ≤ s .n → (r : Rule) → Due t s r → Ok t r s z → Fires t s z r (fire t r s z)
+    due-fires : (s : State) (z : Set) → s .k ≤ s .n → (r : Rule) → Due t s r → Ok t r s z → Fires t s z r (fire (t .size) r s z)
     unfolding fire
     due-fires s z le r (isUnfold p h) k = by-unfold p (to-⊑ h)
     due-fires s z le r (isCandidate p h) k = by-candidate p (to-⋢ h) (to-⋢ (k .1)) (to-⊑ (k .0))
     due-fires s z le r (isDecide p h) k = by-decide (omega arith) (to-⋢ h) (to-⋢ (k .1)) (to-⊑ (k .0))
     due-fires s z le r (isConflict p h) k = by-conflict (omega arith) (to-⊑ h) (to-⊑ (k .0)) (to-⊑ (both-in _ _ z (k .2) (k .1)))
 
-    pub is-step : (s : State) (z : Set) → Invariant t s → Open t s → allowed t (due t s) s z ≡ true → Step t s (due t s) z (fire t (due t s) s z)
+    pub is-step : (s : State) (z : Set) → Invariant t s → Open t s → allowed t (due t s) s z ≡ true → Step t s (due t s) z (fire (t .size) (due t s) s z)
     is-step s z v o e =
         record {
           open-x = open-not-x s o;
@@ -97,7 +97,7 @@ module _ (t : Table) where
     due-only s r r′ (isConflict p h) (isDecide p′ h′) = absurd (not-both (t .size) h h′)
     due-only s r r′ (isConflict p h) (isConflict p′ h′) = refl
 
-    fires-due : (s : State) (z : Set) (r : Rule) (s′ : State) → Fires t s z r s′ → (Due t s r) × Ok t r s z × (s′ ≡ fire t r s z)
+    fires-due : (s : State) (z : Set) (r : Rule) (s′ : State) → Fires t s z r s′ → (Due t s r) × Ok t r s z × (s′ ≡ fire (t .size) r s z)
     unfolding fire
     fires-due s z r s′ (by-unfold p h) = (isUnfold p (of-⊑ h), tt, refl)
     fires-due s z r s′ (by-candidate p h a c) = (isCandidate p (of-⋢ h), (of-⊑ c, of-⋢ a), refl)
@@ -106,7 +106,7 @@ module _ (t : Table) where
         (isConflict (λ (e : s .k ≡ s .n). omega arith) (of-⊑ h), (of-⊑ a, in-right _ _ z (of-⊑ c), in-left _ _ z (of-⊑ c)), refl)
 
     pub step-is : (s : State) (r : Rule) (z : Set) (s′ : State) → Step t s r z s′
-        → (conclusion t s ≡ unfinished) × (r ≡ due t s) × (allowed t r s z ≡ true) × (s′ ≡ fire t r s z)
+        → (conclusion t s ≡ unfinished) × (r ≡ due t s) × (allowed t r s z ≡ true) × (s′ ≡ fire (t .size) r s z)
     step-is s r z s′ p =
         let d = fires-due s z r s′ (p .fires) in
         (still-open, due-only s r (due t s) (d .0) (due-is t s), ok-allowed t r s z (d .1), d .2)

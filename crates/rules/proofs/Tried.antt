@@ -4,10 +4,10 @@ use Rattle.sets.specs.Search.{orElse, least, found, any, all}
 use Rattle.sets.specs.Sets.{bit, member, pack, wordOf, setOf, empty, full, within, sound, meet, quad}
 use Rattle.turns.specs.Turn.{isAngle, candidates, firstThat, between, turnOf}
 use Rattle.rules.specs.Table.{leads, forward, backward}
-use Rattle.rules.specs.Rules.{put, cut, concludes, freshOf, closes, conclusion, due, allowed, house, fire}
-use Rattle.rules.specs.Runs.{asks, offered, pick, stop, after, orZero, willDo, choose, next, lacksRoom, run, firstState, nextState, walkFrom, walk}
+use Rattle.rules.specs.Rules.{put, cut, concludes, freshOf, closes, conclusion, conclusionOf, due, allowed, house, fire}
+use Rattle.rules.specs.Runs.{asks, offered, pick, stop, after, orZero, willDo, choose, next, lacksRoom, lacksRoomFor, run, firstState, nextState, walkFrom, walk}
 use Rattle.rules.specs.Tried.{reasonOf, seen, Rows}
 
 pub rows : Rows
-unfolding orElse least found any all bit member pack wordOf setOf empty full within sound meet quad isAngle candidates firstThat between turnOf leads forward backward put cut concludes freshOf closes conclusion due allowed house fire asks offered pick stop after orZero willDo choose next lacksRoom run firstState nextState walkFrom walk reasonOf seen
+unfolding orElse least found any all bit member pack wordOf setOf empty full within sound meet quad isAngle candidates firstThat between turnOf leads forward backward put cut concludes freshOf closes conclusionOf due allowed house fire asks offered pick stop after orZero willDo choose next lacksRoomFor run firstState nextState walkFrom walk reasonOf seen
 rows = (refl, refl, refl, refl, refl, refl, refl, refl, refl, refl, refl, refl)

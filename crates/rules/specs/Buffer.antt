@@ -47,11 +47,15 @@ module _ (N : ℕ) (b : List ℕ) where
   unfoldable pub keptY : ℕ → Bool
   keptY j = sound (cond (leb (getD b 1 0) j && ltb j (getD b 0 0)) N 0) (quad b (1034 + 4 * j))
 
-module _ (t : Table) (s : State) where
-  -- n is 2 to N+2 and k is 1 to n
-  unfoldable pub ranges : Bool
-  ranges = each (leb 2 (s .n) ∷ leb (s .n) (t .size + 2) ∷ leb 1 (s .k) ∷ leb (s .k) (s .n) ∷ [])
+-- n is 2 to N+2 and k is 1 to n
+unfoldable pub ranges : ℕ → State → Bool
+ranges N s = each (leb 2 (s .n) ∷ leb (s .n) (N + 2) ∷ leb 1 (s .k) ∷ leb (s .k) (s .n) ∷ [])
 
+-- x_j is not within its held y_j
+unfoldable pub parts : ℕ → State → ℕ → Bool
+parts N s j = held (s .k) j (not (within N (s .x j) (s .y j)))
+
+module _ (t : Table) (s : State) where
   -- x_j, I and f(x_j) are within x_(j+1)
   unfoldable pub rises : ℕ → Bool
   rises j =
@@ -64,30 +68,46 @@ module _ (t : Table) (s : State) where
   unfoldable pub falls : ℕ → Bool
   falls j = held (s .k) j (within (t .size) (g t (s .y (suc j))) (s .y j))
 
-  -- x_j is not within its held y_j
-  unfoldable pub parts : ℕ → Bool
-  parts j = held (s .k) j (not (within (t .size) (s .x j) (s .y j)))
+  -- the chain rises all the way
+  abbrev pub rising : Bool
+  rising = all (s .n - 1) rises
 
+  -- each held y falls to the one before
+  abbrev pub falling : Bool
+  falling = all (s .n - 1) falls
+
+-- no x_j is within its held y_j
+abbrev pub apart : ℕ → State → Bool
+apart N s = all (s .n) (parts N s)
+
+-- y_(n-1), if held, contains P
+abbrev pub topped : ℕ → Set → State → Bool
+topped N P s = held (s .k) (s .n - 1) (within N P (s .y (s .n - 1)))
+
+module _ (t : Table) (s : State) where
   -- x_0 is empty; the chain rises; x_(n-2) is within P; y_(n-1), if held, contains P; y falls; no x_j is within its y_j
-  abbrev pub conditions : List Bool
-  conditions =
-      ranges
-      ∷ within (t .size) (s .x 0) empty
-      ∷ all (s .n - 1) rises
+  abbrev pub orders : List Bool
+  orders =
+      within (t .size) (s .x 0) empty
+      ∷ rising t s
       ∷ within (t .size) (s .x (s .n - 2)) (t .safe)
-      ∷ held (s .k) (s .n - 1) (within (t .size) (t .safe) (s .y (s .n - 1)))
-      ∷ all (s .n - 1) falls
-      ∷ all (s .n) parts
+      ∷ topped (t .size) (t .safe) s
+      ∷ falling t s
+      ∷ apart (t .size) s
       ∷ []
+
+  -- n and k are in range, and all of these
+  abbrev pub conditions : List Bool
+  conditions = ranges (t .size) s ∷ orders
 
 -- the entry check of a buffer of 2,066 words
 unfoldable pub entryCheck : Table → List ℕ → Bool
 entryCheck t b = each (all 258 (keptX (t .size) b) ∷ all 258 (keptY (t .size) b) ∷ conditions t (decode b))
 
 -- the sets of a state hold no members from N up, and are empty where none is held
-pub record Normal (t : Table) (s : State) : Type 0 where
-  pub proper-x : (j : ℕ) → Proper (t .size) (s .x j)
-  pub proper-y : (j : ℕ) → Proper (t .size) (s .y j)
+pub record Normal (N : ℕ) (s : State) : Type 0 where
+  pub proper-x : (j : ℕ) → Proper N (s .x j)
+  pub proper-y : (j : ℕ) → Proper N (s .y j)
   pub x-end : (j : ℕ) → s .n ≤ j → s .x j ≡ empty
   pub y-end : (j : ℕ) → s .n ≤ j → s .y j ≡ empty
   pub y-low : (j : ℕ) → j < s .k → s .y j ≡ empty

@@ -41,7 +41,7 @@ module _ (t : Table) where
   -- a fresh run passes the entry check; every rule keeps it, under every choice allowed; the house choice is one
   pub record Kept : Type 0 where
     pub fresh-passes : Passes (fresh t)
-    pub rules-keep : (s : State) (z : Set) → Passes s → conclusion t s ≡ unfinished → allowed t (due t s) s z ≡ true → Passes (fire t (due t s) s z)
+    pub rules-keep : (s : State) (z : Set) → Passes s → conclusion t s ≡ unfinished → allowed t (due t s) s z ≡ true → Passes (fire (t .size) (due t s) s z)
     pub house-allowed : (s : State) → Passes s → conclusion t s ≡ unfinished → allowed t (due t s) s (house t (due t s) s) ≡ true
     -- a run that has not concluded has a place for another set
     pub room : (s : State) → Passes s → conclusion t s ≡ unfinished → s .n ≤ t .size + 1
@@ -49,9 +49,9 @@ module _ (t : Table) where
   -- a choice allowed makes a step of the published rules; every step of theirs is the rule due, with a choice allowed
   pub record Published : Type 0 where
     pub is-step : (s : State) (z : Set) → Passes s → conclusion t s ≡ unfinished → allowed t (due t s) s z ≡ true
-        → Step t s (due t s) z (fire t (due t s) s z)
+        → Step t s (due t s) z (fire (t .size) (due t s) s z)
     pub step-is : (s : State) (rule : Rule) (z : Set) (s′ : State) → Passes s → Step t s rule z s′
-        → (conclusion t s ≡ unfinished) × (rule ≡ due t s) × (allowed t rule s z ≡ true) × (s′ ≡ fire t rule s z)
+        → (conclusion t s ≡ unfinished) × (rule ≡ due t s) × (allowed t rule s z ≡ true) × (s′ ≡ fire (t .size) rule s z)
 
   -- so many steps of the published rules, each with the set that the hints at hand give it (`choose` of specs/Runs.antt);
   -- so many hints taken and so many used, the hints before and the hints left
@@ -101,11 +101,11 @@ module _ (t : Table) where
 
   -- a buffer of 2,066 words passes the entry check exactly when it holds a state that meets the conditions, and then one
   pub record Encoding (b : List ℕ) : Type 0 where
-    pub holds : entryCheck t b ≡ true → (s : State) × (encode s ≡ b) × Normal t s × Passes s
-    pub passes : (s : State) → encode s ≡ b → Normal t s → Passes s → entryCheck t b ≡ true
-    pub one : (s s′ : State) → encode s ≡ b → encode s′ ≡ b → Normal t s → Normal t s′ → Passes s → Passes s′ → s ≡ s′
+    pub holds : entryCheck t b ≡ true → (s : State) × (encode s ≡ b) × Normal (t .size) s × Passes s
+    pub passes : (s : State) → encode s ≡ b → Normal (t .size) s → Passes s → entryCheck t b ≡ true
+    pub one : (s s′ : State) → encode s ≡ b → encode s′ ≡ b → Normal (t .size) s → Normal (t .size) s′ → Passes s → Passes s′ → s ≡ s′
 
   -- after every rule words not in use are 0: the next state's words pass again
   pub record Rewritten : Type 0 where
-    pub again : (s : State) (z : Set) → Passes s → Normal t s → conclusion t s ≡ unfinished → Proper (t .size) z → allowed t (due t s) s z ≡ true
-        → entryCheck t (encode (fire t (due t s) s z)) ≡ true
+    pub again : (s : State) (z : Set) → Passes s → Normal (t .size) s → conclusion t s ≡ unfinished → Proper (t .size) z → allowed t (due t s) s z ≡ true
+        → entryCheck t (encode (fire (t .size) (due t s) s z)) ≡ true

@@ -48,17 +48,43 @@ concludes none false = unfinished
 unfoldable pub freshOf : ℕ → State
 freshOf N = state 2 2 (put (λ j. empty) 1 (full N)) (λ j. empty)
 
+-- x_(j+1) is within x_j
+unfoldable pub closes : ℕ → State → ℕ → Bool
+closes N s j = within N (s .x (suc j)) (s .x j)
+
+-- the smallest j from 0 to n-2 that closes; k = 1 and I not within y_1
+unfoldable pub conclusionOf : ℕ → Set → State → Result
+conclusionOf N I s = concludes (least (s .n - 1) (closes N s)) (eqb (s .k) 1 && not (within N I (s .y 1)))
+
+-- z contains low and does not contain x
+abbrev pub separates : ℕ → Set → Set → Set → Bool
+separates N low x z = within N low z && not (within N x z)
+
+-- the state after each rule, fired with z
+abbrev pub afterUnfold : ℕ → State → State
+afterUnfold N s = state (s .n + 1) (s .n + 1) (put (s .x) (s .n) (full N)) (s .y)
+
+abbrev pub afterCandidate : State → Set → State
+afterCandidate s z = state (s .n) (s .n - 1) (s .x) (put (s .y) (s .n - 1) z)
+
+abbrev pub afterDecide : State → Set → State
+afterDecide s z = state (s .n) (s .k - 1) (s .x) (put (s .y) (s .k - 1) z)
+
+abbrev pub afterConflict : ℕ → State → Set → State
+afterConflict N s z = state (s .n) (s .k + 1) (cut N (s .x) (s .k) z) (put (s .y) (s .k) empty)
+
+unfoldable pub fire : ℕ → Rule → State → Set → State
+fire N Unfold s z = afterUnfold N s
+fire N Candidate s z = afterCandidate s z
+fire N Decide s z = afterDecide s z
+fire N Conflict s z = afterConflict N s z
+
 module _ (t : Table) where
   abbrev pub fresh : State
   fresh = freshOf (t .size)
 
-  -- x_(j+1) is within x_j
-  unfoldable pub closes : State → ℕ → Bool
-  closes s j = within (t .size) (s .x (suc j)) (s .x j)
-
-  -- the smallest j from 0 to n-2 that closes; k = 1 and I not within y_1
-  unfoldable pub conclusion : State → Result
-  conclusion s = concludes (least (s .n - 1) (closes s)) (eqb (s .k) 1 && not (within (t .size) (t .starts) (s .y 1)))
+  abbrev pub conclusion : State → Result
+  conclusion s = conclusionOf (t .size) (t .starts) s
 
   -- y empty: x_(n-1) within P or not; y not empty: f(x_(k-1)) within y_k or not
   unfoldable pub due : State → Rule
@@ -68,14 +94,16 @@ module _ (t : Table) where
         | false ↦ elim (within (t .size) (f t (s .x (s .k - 1))) (s .y (s .k))) [ true ↦ Conflict | false ↦ Decide ]
       ]
 
+  -- z is within y, and contains I and f(x ∩ z)
+  abbrev pub blocks : Set → Set → Set → Bool
+  blocks y x z = within (t .size) z y && within (t .size) (t .starts) z && within (t .size) (f t (meet (t .size) x z)) z
+
   -- what the rule asks of the set z that is chosen
   unfoldable pub allowed : Rule → State → Set → Bool
   allowed Unfold s z = true
-  allowed Candidate s z = within (t .size) (t .safe) z && not (within (t .size) (s .x (s .n - 1)) z)
-  allowed Decide s z = within (t .size) (g t (s .y (s .k))) z && not (within (t .size) (s .x (s .k - 1)) z)
-  allowed Conflict s z =
-      within (t .size) z (s .y (s .k)) && within (t .size) (t .starts) z
-      && within (t .size) (f t (meet (t .size) (s .x (s .k - 1)) z)) z
+  allowed Candidate s z = separates (t .size) (t .safe) (s .x (s .n - 1)) z
+  allowed Decide s z = separates (t .size) (g t (s .y (s .k))) (s .x (s .k - 1)) z
+  allowed Conflict s z = blocks (s .y (s .k)) (s .x (s .k - 1)) z
 
   -- the house choice: P, g(y_k) and y_k
   unfoldable pub house : Rule → State → Set
@@ -83,10 +111,3 @@ module _ (t : Table) where
   house Candidate s = t .safe
   house Decide s = g t (s .y (s .k))
   house Conflict s = s .y (s .k)
-
-  -- the rule fired with z
-  unfoldable pub fire : Rule → State → Set → State
-  fire Unfold s z = state (s .n + 1) (s .n + 1) (put (s .x) (s .n) (full (t .size))) (s .y)
-  fire Candidate s z = state (s .n) (s .n - 1) (s .x) (put (s .y) (s .n - 1) z)
-  fire Decide s z = state (s .n) (s .k - 1) (s .x) (put (s .y) (s .k - 1) z)
-  fire Conflict s z = state (s .n) (s .k + 1) (cut (t .size) (s .x) (s .k) z) (put (s .y) (s .k) empty)

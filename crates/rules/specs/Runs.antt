@@ -17,6 +17,10 @@ asks Candidate = true
 asks Decide = true
 asks Conflict = true
 
+-- Unfold wants one place more than there is
+unfoldable pub lacksRoomFor : Rule → ℕ → Bool
+lacksRoomFor rule n = not (asks rule) && eqb n 258
+
 -- the set chosen, the hints left, and how many were taken and used
 pub record Choice : Type 0 where
   pub set : Set
@@ -87,11 +91,11 @@ module _ (t : Table) where
 
   -- the rule due, fired with the set chosen
   unfoldable pub next : Choice → State → State
-  next c s = fire t (due t s) s (c .set)
+  next c s = fire (t .size) (due t s) s (c .set)
 
   -- Unfold is due and n is 258
-  unfoldable pub lacksRoom : State → Bool
-  lacksRoom s = not (asks (due t s)) && eqb (s .n) 258
+  abbrev pub lacksRoom : State → Bool
+  lacksRoom s = lacksRoomFor (due t s) (s .n)
 
   -- at most b rules; the conclusion is tested before the budget
   unfoldable pub run : ℕ → List Set → State → Outcome

@@ -27,7 +27,7 @@ module _ (t : Table) where
         | unfinished ↦ elim (lacksRoom t s) [
           | true ↦ refused noRoom
           | false ↦ elim (takes s z) [
-            | true ↦ given (record { rule = due t s; state = fire t (due t s) s z })
+            | true ↦ given (record { rule = due t s; state = fire (t .size) (due t s) s z })
             | false ↦ refused notAllowed
           ]
         ]

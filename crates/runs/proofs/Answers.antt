@@ -1,8 +1,8 @@
 -- From what the private functions hand on to what the public calls promise.
-use Prim.Native.Nat.{ℕ, zero, suc, _+_, _-_, _<_, _%_}
+use Prim.Native.Nat.{ℕ, zero, suc, _+_, _-_, _*_, _≤_, _<_, _%_}
 use native.Mathlib.Nat.{zero-add}
 use native.Mathlib.Omega.{arith}
-use mathlib.Core.Bool.{Bool, true, false, _&&_}
+use mathlib.Core.Bool.{Bool, true, false, not, _&&_}
 use mathlib.Core.List.{List}
 use mathlib.Core.Logic.{_≢_}
 use mathlib.Core.Path.{_≡_, refl, sym, ap, _∙_}
@@ -11,130 +11,187 @@ use lib.ListN.{length, getD}
 use lib.Seq.{sets, length-sets, ext-getD}
 use Rattle.answers.specs.Answer.{given, refused}
 use Rattle.answers.specs.Refusals.{notAllowed, alreadyConcluded}
+use Rattle.entries.specs.Refusal.{entryRefusal}
 use Rattle.rules.proofs.Budget.{run-result, run-keeps}
-use Rattle.rules.proofs.Held.{held-back, fit-of, Fit}
+use Rattle.rules.proofs.Ends.{has-room}
+use Rattle.rules.proofs.Held.{held-back, fit-of}
 use Rattle.rules.proofs.Invariant.{Open, Invariant}
-use Rattle.rules.proofs.Meaning.{safe-at, never-noRoom}
+use Rattle.rules.proofs.Meaning.{safe-at, never-noRoom, reached-at}
 use Rattle.rules.proofs.Normal.{run-normal}
+use Rattle.rules.proofs.Reading.{x-is, k-is}
+use Rattle.rules.proofs.Ready.{Words64, Ready, ready-by}
 use Rattle.rules.specs.Buffer.{encode, decode, Normal}
-use Rattle.rules.specs.Rules.{noRoom, conclusion, due, fire, State, Result, Rule, safe, reached, unfinished}
-use Rattle.rules.specs.Runs.{lacksRoom, run, walk, Outcome}
+use Rattle.rules.specs.Rules.{noRoom, conclusion, conclusionOf, due, fire, State, Result, Rule, safe, reached, unfinished}
+use Rattle.rules.specs.Runs as runs
+use Rattle.rules.specs.Runs.{lacksRoom, lacksRoomFor, run, walk}
 use Rattle.rules.specs.Single.{takes, single, Fired}
 use Rattle.rules.specs.Table.{Table}
-use Rattle.runs.proofs.Reading.{Words64}
-use Rattle.runs.proofs.Steps.{rule-is, hints-words}
+use Rattle.runs.proofs.Choices.{hints-words}
+use Rattle.runs.proofs.Enums.{due-as, stands-as, stands-by, concluded, still-open}
+use Rattle.runs.proofs.Steps.{lacks-none, fireable}
 use Rattle.runs.proofs.Stores.{getD-sets-in}
+use Rattle.runs.proofs.Walks.{reached-short}
 use Rattle.runs.specs.Hints.{hintsAt}
-use Rattle.runs.specs.Promises.{runRefusal, singleAnswer, singleBuffer, lengthsOk, runAnswer, ran, setAfter, walkAfter, SinglePromise, Answered}
-use Rattle.runs.specs.Ready.{Ended, Good, Checked, Finished}
-use Rattle.runs.specs.Said.{ruleOf}
-use Rattle.runs.specs.declared.Asked.the-variants.{Refused}
-use Rattle.runs.specs.declared.RunAnswer.{RunAnswer}
-use Rattle.runs.specs.declared.Standing.{Standing}
-use Rattle.runs.specs.declared.Standing.the-variants.{Safe, Reached, Unfinished}
-use Rattle.sets.proofs.Tests.{passed, and-true, eqb-says}
-use Rattle.sets.specs.Sets.{Set}
-use Rattle.rules.specs.Runs as runs
-use Rattle.runs.specs.declared.Rule as code
-use Rattle.runs.specs.declared.Standing as standing
+use Rattle.runs.specs.Inner.{Stands, IsDue, Fireable, Ended, Finished, refusedAnswer}
+use Rattle.runs.specs.Promises.{runRefusal, singleAnswer, singleBuffer, lengthsOk, runAnswer, ran, setAfter, walkAfter, SingleAnswered, Answered}
+use Rattle.runs.specs.Said.{standingOf, isOpen, asRule, asResult}
 use Rattle.runs.specs.declared.Asked as asked
 use Rattle.runs.specs.declared.Outcome as outcome
+use Rattle.runs.specs.declared.Rule as code
 use Rattle.runs.specs.declared.RunAnswer as answer
-
--- ---- the shared refusal
-pub checked-no : (t : Table) (b : List ℕ) (lengths : Bool) (r : ℕ) → r ≡ runRefusal t b lengths → r ≢ 0 → Checked t b lengths r
-checked-no t b lengths r e n =
-    record { is = e; rows = λ q. absurd (n q); long = λ q. absurd (n q); fits = λ q. absurd (n q); good = λ q. absurd (n q); fit = λ q. absurd (n q) }
+use Rattle.runs.specs.declared.Standing as standing
+use Rattle.runs.specs.declared.search.Ran.{Ran}
+use Rattle.sets.proofs.Tests.{passed, clash, and-true, eqb-says, not-true, not-false}
+use Rattle.sets.specs.Sets.{Set, quad}
 
 -- ---- a single rule
-module _ (t : Table) (s : State) (z : Set) where
-  pub single-done : conclusion t s ≢ unfinished → single t s z ≡ refused alreadyConcluded
-  unfolding single
-  single-done n = go (conclusion t s) refl
+pub single-refused : (t : Table) (z : Set) (b : List ℕ) (n m : ℕ) → n ≡ m → (n ≡ 0 → ⊥) → SingleAnswered t z m b b (asked.the-variants.Refused n)
+unfolding singleAnswer singleBuffer
+single-refused t z b zero m e h = absurd (h refl)
+single-refused t z b (suc n) m e h = record { answer = rw (← e); buffer = rw (← e) }
+
+-- nothing was refused
+pub single-given : (t : Table) (z : Set) (b b′ : List ℕ) (r : asked.Asked) (n m : ℕ) → n ≡ m → n ≡ 0 → SingleAnswered t z 0 b b′ r → SingleAnswered t z m b b′ r
+single-given t z b b′ r n m e h a = rw (sym e ∙ h) a
+
+-- w is how the run stands, r what `is_open` answered
+module _ (t : Table) (z : Set) (b : List ℕ) (v : Ready t b) (w : standing.Standing) (ew : w ≡ standingOf (conclusionOf 256 (t .starts) (decode b)))
+    (r : Bool) (e : r ≡ isOpen w) where
+  stands : Stands t b w
+  stands = stands-by t b w v ew
+
+  pub ask-concluded : not r ≡ true → SingleAnswered t z 0 b b (asked.the-variants.Refused 10)
+  unfolding singleAnswer singleBuffer single
+  ask-concluded n = record { answer = rw done; buffer = rw done }
     where
-      go : (r : Result) → conclusion t s ≡ r → single t s z ≡ refused alreadyConcluded
-      go (safe j) e = rw (e, single)
-      go reached e = rw (e, single)
-      go noRoom e = rw (e, single)
-      go unfinished e = absurd (n e)
+      done : single t (decode b) z ≡ refused alreadyConcluded
+      done = go (conclusion t (decode b)) refl
+        where
+          go : (c : Result) → conclusion t (decode b) ≡ c → single t (decode b) z ≡ refused alreadyConcluded
+          go (safe j) q = rw (q, single)
+          go reached q = rw (q, single)
+          go noRoom q = rw (q, single)
+          go unfinished q = absurd (concluded t b w stands r e n q)
 
-  pub single-no : Open t s → lacksRoom t s ≡ false → takes t s z ≡ false → single t s z ≡ refused notAllowed
-  unfolding single
-  single-no o h k = rw (o, h, k, single)
+  module _ (n : not r ≡ false) (rule : code.Rule) (d : IsDue t b rule) where
+    open-now : Open t (decode b)
+    open-now = still-open t b w stands r e n
 
-  pub single-yes : Open t s → lacksRoom t s ≡ false → takes t s z ≡ true → single t s z ≡ given (record { rule = due t s; state = fire t (due t s) s z })
-  unfolding single
-  single-yes o h k = rw (o, h, k, single)
+    pub ask-full : (q : Bool) (a : asked.Asked) → q ≡ lacksRoomFor (asRule rule) (getD b 0 0) → q ≡ true → SingleAnswered t z 0 b b a
+    ask-full q a eq y = absurd (clash y (lacks-none t b rule q v d open-now eq))
 
-module _ (t : Table) (z : Set) (b : List ℕ) where
-  pub single-refused : (n : ℕ) → n ≡ runRefusal t b true → n ≢ 0 → SinglePromise t z b b (asked.the-variants.Refused n)
-  unfolding singleAnswer singleBuffer
-  single-refused zero e h = absurd (h refl)
-  single-refused (suc n) e h = record { answer = rw (← e); buffer = rw (← e) }
+    pub fireable-now : (N : ℕ) → N ≡ t .size → Fireable N b rule
+    fireable-now N eN = fireable t b rule N v eN d open-now
 
-  module _ (ok : runRefusal t b true ≡ 0) where
-    pub single-answers : (n : ℕ) → single t (decode b) z ≡ refused n → SinglePromise t z b b (asked.the-variants.Refused n)
-    unfolding singleAnswer singleBuffer
-    single-answers n e = record { answer = rw (ok, e); buffer = rw (ok, e) }
+    room-left : lacksRoom t (decode b) ≡ false
+    room-left = has-room t (v .good .big) (decode b) (v .fit .inv) open-now
 
-    pub single-fires : (r : code.Rule) (b′ : List ℕ) → r ≡ ruleOf (due t (decode b)) → b′ ≡ encode (fire t (due t (decode b)) (decode b) z)
-        → single t (decode b) z ≡ given (record { rule = due t (decode b); state = fire t (due t (decode b)) (decode b) z })
-        → SinglePromise t z b b′ (asked.the-variants.Fired r)
-    unfolding singleAnswer singleBuffer
-    single-fires r b′ er eb e = record { answer = rw (ok, e) (ap given (sym (rule-is _ r er))); buffer = rw (ok, e) eb }
+    module _ (q : Bool) (eq : q ≡ takes t (decode b) z) where
+      pub ask-no : not q ≡ true → SingleAnswered t z 0 b b (asked.the-variants.Refused 9)
+      unfolding singleAnswer singleBuffer single
+      ask-no y = record { answer = rw no; buffer = rw no }
+        where
+          no : single t (decode b) z ≡ refused notAllowed
+          no = rw (open-now, room-left, sym eq ∙ not-true q y, single)
+
+      pub ask-fires : (b′ : List ℕ) → not q ≡ false → b′ ≡ encode (fire (t .size) (asRule rule) (decode b) z)
+          → SingleAnswered t z 0 b b′ (asked.the-variants.Fired rule)
+      unfolding singleAnswer singleBuffer single
+      ask-fires b′ y eb = record { answer = rw yes (ap given (sym (due-as t b rule d))); buffer = rw yes (rw (due-as t b rule d) eb) }
+        where
+          yes : single t (decode b) z ≡ given (record { rule = due t (decode b); state = fire (t .size) (due t (decode b)) (decode b) z })
+          yes = rw (open-now, room-left, sym eq ∙ not-false q y, single)
 
 -- ---- the end of a run
-pub safe-lt : (t : Table) (b : List ℕ) (j : ℕ) → conclusion t (decode b) ≡ safe j → j + 1 < getD b 0 0
-unfolding decode
-safe-lt t b j e = omega (arith, (safe-at t (decode b) j e) .lt)
+module _ (t : Table) (b : List ℕ) (w : standing.Standing) (v : Ready t b) (s : Stands t b w) where
+  -- safe: x_j has its place
+  pub safe-below : (j : ℕ) → w ≡ standing.the-variants.Safe j → j + 1 < getD b 0 0
+  unfolding decode asResult
+  safe-below j e = omega (arith, (safe-at t (decode b) j (stands-as t b w s ∙ ap asResult e)) .lt)
 
-module _ (t : Table) (b : List ℕ) (f a u : ℕ) (set walk : List ℕ) where
+  -- reached: the walk has its place, and y_1 is held
+  pub reached-few : w ≡ standing.the-variants.Reached → getD b 0 0 ≤ 257
+  unfolding asResult
+  reached-few e = reached-short t (v .good) b (v .fit) (stands-as t b w s ∙ ap asResult e)
+
+  pub reached-held : w ≡ standing.the-variants.Reached → getD b 1 0 ≤ 1
+  unfolding asResult
+  reached-held e = omega (arith, k-is b, (reached-at t (decode b) (stands-as t b w s ∙ ap asResult e)) .0)
+
+-- one arm for each way that the run stands
+module _ (t : Table) (b : List ℕ) (r : Ran) (set walk : List ℕ) (v : Ready t b) (s : Stands t b (r .standing)) where
   abbrev ans : outcome.Outcome → answer.RunAnswer
-  ans o = record { outcome = o; rules = f; taken = a; used = u }
+  ans o = record { outcome = o; rules = r .rules; taken = r .taken; used = r .used }
 
-  pub finish-safe : (j : ℕ) (set′ : List ℕ) → conclusion t (decode b) ≡ safe j → set′ ≡ (decode b) .x j → Finished t b f a u (ans (outcome.the-variants.Safe j)) set set′ walk walk
-  unfolding runAnswer setAfter walkAfter
-  finish-safe j set′ e q = record { outcome = rw e; fired = refl; took = refl; uses = refl; set-is = rw e q; walk-is = rw e }
+  pub finish-safe : (j : ℕ) (x : Set) (set′ : List ℕ) → r .standing ≡ standing.the-variants.Safe j → x ≡ quad b (2 + 4 * j) → length x ≡ 4 → length set ≡ 4
+      → set′ ≡ sets set 0 x → Finished t b r (ans (outcome.the-variants.Safe j)) set set′ walk walk
+  unfolding runAnswer setAfter walkAfter asResult
+  finish-safe j x set′ e ex fx fs es =
+      let c : conclusion t (decode b) ≡ safe j = stands-as t b _ s ∙ ap asResult e in
+      let q : set′ ≡ (decode b) .x j = es ∙ sets-all set x fs fx ∙ ex ∙ x-is b j _ refl (omega (arith, safe-below t b _ v s j e)) in
+      record { outcome = rw c; fired = refl; took = refl; uses = refl; set-is = rw c q; walk-is = rw c }
+    where
+      -- four words over four words
+      sets-all : (l x : List ℕ) → length l ≡ 4 → length x ≡ 4 → sets l 0 x ≡ x
+      sets-all l x hl hx = ext-getD 0 (sets l 0 x) x (length-sets l 0 x ∙ hl ∙ sym hx)
+          (λ i h. let e : length (sets l 0 x) ≡ length l = length-sets l 0 x in
+          ap (λ (k : ℕ). getD (sets l 0 x) k 0) (sym (zero-add i)) ∙ getD-sets-in x l 0 i (omega arith) (omega arith))
 
-  pub finish-reached : (walk′ : List ℕ) → conclusion t (decode b) ≡ reached → walk′ ≡ sets walk 0 (runs.walk t (decode b))
-      → Finished t b f a u (ans (outcome.the-variants.Reached (getD b 0 0 - 1))) set set walk walk′
-  unfolding runAnswer setAfter walkAfter decode
-  finish-reached walk′ e q = record { outcome = rw e; fired = refl; took = refl; uses = refl; set-is = rw e; walk-is = rw e q }
+  pub finish-reached : (walk′ : List ℕ) → r .standing ≡ standing.the-variants.Reached → walk′ ≡ sets walk 0 (runs.walk t (decode b))
+      → Finished t b r (ans (outcome.the-variants.Reached (getD b 0 0 - 1))) set set walk walk′
+  unfolding runAnswer setAfter walkAfter decode asResult
+  finish-reached walk′ e q =
+      let c : conclusion t (decode b) ≡ reached = stands-as t b _ s ∙ ap asResult e in
+      record { outcome = rw c; fired = refl; took = refl; uses = refl; set-is = rw c; walk-is = rw c q }
 
-  pub finish-open : conclusion t (decode b) ≡ unfinished → Finished t b f a u (ans outcome.the-variants.Unfinished) set set walk walk
-  unfolding runAnswer setAfter walkAfter
-  finish-open e = record { outcome = rw e; fired = refl; took = refl; uses = refl; set-is = rw e; walk-is = rw e }
+  pub finish-open : r .standing ≡ standing.the-variants.Unfinished → Finished t b r (ans outcome.the-variants.Unfinished) set set walk walk
+  unfolding runAnswer setAfter walkAfter asResult
+  finish-open e =
+      let c : conclusion t (decode b) ≡ unfinished = stands-as t b _ s ∙ ap asResult e in
+      record { outcome = rw c; fired = refl; took = refl; uses = refl; set-is = rw c; walk-is = rw c }
 
--- four words over four words
-pub sets-all : (l x : List ℕ) → length l ≡ 4 → length x ≡ 4 → sets l 0 x ≡ x
-sets-all l x hl hx = ext-getD 0 (sets l 0 x) x (length-sets l 0 x ∙ hl ∙ sym hx)
-    (λ i h. let e : length (sets l 0 x) ≡ length l = length-sets l 0 x in
-    ap (λ (k : ℕ). getD (sets l 0 x) k 0) (sym (zero-add i)) ∙ getD-sets-in x l 0 i (omega arith) (omega arith))
+  pub finish-never : (a : answer.RunAnswer) → r .standing ≡ standing.the-variants.NoRoom → Finished t b r a set set walk walk
+  unfolding asResult
+  finish-never a e = absurd (never-noRoom t (decode b) (stands-as t b _ s ∙ ap asResult e))
 
 -- ---- a run
-pub run-refused : (t : Table) (n : ℕ) (o : runs.Outcome) (b set walk : List ℕ) → n ≢ 0
-    → Answered t n o b b set set walk walk (record { outcome = outcome.the-variants.Refused n; rules = 0; taken = 0; used = 0 })
+pub run-refused : (t : Table) (n m : ℕ) (o : runs.Outcome) (b set walk : List ℕ) (a : answer.RunAnswer) → a ≡ refusedAnswer n → n ≡ m → (n ≡ 0 → ⊥)
+    → Answered t m o b b set set walk walk a
 unfolding runAnswer ran setAfter walkAfter
-run-refused t zero o b set walk h = absurd (h refl)
-run-refused t (suc n) o b set walk h = record { outcome = refl; rules = refl; taken = refl; used = refl; buffer = refl; set-is = refl; walk-is = refl }
+run-refused t zero m o b set walk a ea e h = absurd (h refl)
+run-refused t (suc n) m o b set walk a ea e h =
+    rw (ea, ← e) (record { outcome = refl; rules = refl; taken = refl; used = refl; buffer = refl; set-is = refl; walk-is = refl })
+
+-- nothing was refused
+pub run-given : (t : Table) (n m : ℕ) (o : runs.Outcome) (b b′ set set′ walk walk′ : List ℕ) (a : answer.RunAnswer) → n ≡ m → n ≡ 0
+    → Answered t 0 o b b′ set set′ walk walk′ a → Answered t m o b b′ set set′ walk walk′ a
+run-given t n m o b b′ set set′ walk walk′ a e z p = rw (sym e ∙ z) p
+
+-- r is what `lengths` answered
+module _ (t : Table) (b hints set walk : List ℕ) (r : Bool) (e : r ≡ lengthsOk hints set walk) where
+  pub run-wrong : not r ≡ true → 7 ≡ runRefusal t b (lengthsOk hints set walk)
+  run-wrong n = rw (sym e ∙ not-true r n)
+
+  pub run-right : not r ≡ false → (n : ℕ) → n ≡ entryRefusal t b → n ≡ runRefusal t b (lengthsOk hints set walk)
+  run-right n m q = rw (sym e ∙ not-false r n) q
 
 -- the buffer that a run leaves
-module _ (t : Table) (good : Good t) (b : List ℕ) (v : Fit t b) (budget : ℕ) (ws : List ℕ) (w : Words64 ws)
-    (b′ : List ℕ) (e : b′ ≡ encode ((run t budget (hintsAt ws 0) (decode b)) .state)) where
+module _ (t : Table) (b : List ℕ) (v : Ready t b) (budget : ℕ) (ws : List ℕ) (w : Words64 ws) (b′ : List ℕ)
+    (e : b′ ≡ encode ((run t budget (hintsAt ws 0) (decode b)) .state)) where
   left-inv : Invariant t ((run t budget (hintsAt ws 0) (decode b)) .state)
-  left-inv = run-keeps t (good .big) budget (hintsAt ws 0) (decode b) (v .inv)
+  left-inv = run-keeps t (v .good .big) budget (hintsAt ws 0) (decode b) (v .fit .inv)
 
-  left-normal : Normal t ((run t budget (hintsAt ws 0) (decode b)) .state)
-  left-normal = run-normal t (good .big) (good .safe) budget (hintsAt ws 0) (decode b) (v .inv) (hints-words ws w 0) (v .held .norm)
+  left-normal : Normal (t .size) ((run t budget (hintsAt ws 0) (decode b)) .state)
+  left-normal = run-normal t (v .good .big) (v .good .safe) budget (hintsAt ws 0) (decode b) (v .fit .inv) (hints-words ws w 0) (v .fit .held .norm)
 
-  pub left-fit : Fit t b′
-  left-fit = rw e (fit-of t (good .big) _ left-inv left-normal)
+  pub left-ready : Ready t b′
+  left-ready = ready-by (v .good) (rw e (fit-of t (v .good .big) _ left-inv left-normal))
 
   pub left-back : decode b′ ≡ (run t budget (hintsAt ws 0) (decode b)) .state
-  left-back = rw e (held-back t (good .big) _ left-inv left-normal)
+  left-back = rw e (held-back t (v .good .big) _ left-inv left-normal)
 
   pub left-result : (run t budget (hintsAt ws 0) (decode b)) .result ≡ conclusion t (decode b′)
-  left-result = run-result t (good .big) budget (hintsAt ws 0) (decode b) (v .inv) ∙ ap (conclusion t) (sym left-back)
+  left-result = run-result t (v .good .big) budget (hintsAt ws 0) (decode b) (v .fit .inv) ∙ ap (conclusion t) (sym left-back)
 
 -- a run whose result is a conclusion was run
 pub ran-all : (t : Table) (s : State) → ran 0 (conclusion t s) ≡ true
@@ -147,24 +204,36 @@ ran-all t s = go (conclusion t s) refl
     go unfinished e = refl
     go noRoom e = absurd (never-noRoom t s e)
 
-pub run-answers : (t : Table) (refusal : ℕ) (o : runs.Outcome) (r : answer.RunAnswer) (b b′ set set′ walk walk′ : List ℕ) (v : standing.Standing) (f a u : ℕ) → refusal ≡ 0
-    → Ended o b′ v f a u → decode b′ ≡ o .state → o .result ≡ conclusion t (decode b′) → Finished t b′ f a u r set set′ walk walk′ → Answered t refusal o b b′ set set′ walk walk′ r
-run-answers t refusal o r b b′ set set′ walk walk′ v f a u z e q p n =
-    rw (z, p) (record {
-      outcome = n .outcome ∙ ap (runAnswer 0 (conclusion t (decode b′))) q;
-      rules = rw (ran-all t (decode b′)) (n .fired ∙ e .fired);
-      taken = rw (ran-all t (decode b′)) (n .took ∙ e .took);
-      used = rw (ran-all t (decode b′)) (n .uses ∙ e .uses);
-      buffer = rw (ran-all t (decode b′)) (e .buffer);
-      set-is = n .set-is ∙ ap (λ s. setAfter 0 (conclusion t (decode b′)) s set) q;
-      walk-is = n .walk-is ∙ ap (λ s. walkAfter t 0 (conclusion t (decode b′)) s walk) q;
-    })
+module _ (t : Table) (b : List ℕ) (v : Ready t b) (budget : ℕ) (ws : List ℕ) (w : Words64 ws) (b′ : List ℕ) (r : Ran)
+    (e : Ended (run t budget (hintsAt ws 0) (decode b)) b′ r) where
+  pub ended-ready : Ready t b′
+  ended-ready = left-ready t b v budget ws w b′ (e .buffer)
+
+  pub ended-stands : Stands t b′ (r .standing)
+  ended-stands = e .standing ∙ ap standingOf (left-result t b v budget ws w b′ (e .buffer))
+
+  pub run-answers : (set set′ walk walk′ : List ℕ) (a : answer.RunAnswer) → Finished t b′ r a set set′ walk walk′
+      → Answered t 0 (run t budget (hintsAt ws 0) (decode b)) b b′ set set′ walk walk′ a
+  run-answers set set′ walk walk′ a n =
+      let p = left-result t b v budget ws w b′ (e .buffer) in
+      let q = left-back t b v budget ws w b′ (e .buffer) in
+      rw p (record {
+        outcome = n .outcome ∙ ap (runAnswer 0 (conclusion t (decode b′))) q;
+        rules = rw (ran-all t (decode b′)) (n .fired ∙ e .fired);
+        taken = rw (ran-all t (decode b′)) (n .took ∙ e .took);
+        used = rw (ran-all t (decode b′)) (n .uses ∙ e .uses);
+        buffer = rw (ran-all t (decode b′)) (e .buffer);
+        set-is = n .set-is ∙ ap (λ s. setAfter 0 (conclusion t (decode b′)) s set) q;
+        walk-is = n .walk-is ∙ ap (λ s. walkAfter t 0 (conclusion t (decode b′)) s walk) q;
+      })
 
 -- what `lengths` says
 pub lengths-set : (hints l w : List ℕ) → lengthsOk hints l w ≡ true → length l ≡ 4
 unfolding lengthsOk
-lengths-set hints l w e = passed (eqb-says (length l) 4) (and-true _ _ (and-true (eqb (length hints % 4) 0) (eqb (length l) 4 && eqb (length w) 256) e .1) .0)
+lengths-set hints l w e =
+    passed (eqb-says (length l) 4) (and-true _ _ (and-true (eqb (length hints % 4) 0) (eqb (length l) 4 && eqb (length w) 256) e .1) .0)
 
 pub lengths-walk : (hints l w : List ℕ) → lengthsOk hints l w ≡ true → length w ≡ 256
 unfolding lengthsOk
-lengths-walk hints l w e = passed (eqb-says (length w) 256) (and-true (eqb (length l) 4) _ (and-true (eqb (length hints % 4) 0) (eqb (length l) 4 && eqb (length w) 256) e .1) .1)
+lengths-walk hints l w e =
+    passed (eqb-says (length w) 256) (and-true (eqb (length l) 4) _ (and-true (eqb (length hints % 4) 0) (eqb (length l) 4 && eqb (length w) 256) e .1) .1)

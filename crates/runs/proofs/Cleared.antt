@@ -6,15 +6,17 @@ use mathlib.Core.List.{List}
 use mathlib.Core.Logic.{_⊎_, inl, inr, _≢_}
 use mathlib.Core.Path.{_≡_, refl, sym, ap, _∙_}
 use borrow.Author.Tests.{eq-eqb, ne-eqb}
-use lib.ListN.{length, getD, set}
+use lib.ListN.{length, getD, set, length-set}
 use lib.Seq.{sets, ext-getD, getD-set-same, getD-set-other}
 use Rattle.rules.proofs.Buffer.{at-x, at-y, encode-n, encode-k, encode-length}
 use Rattle.rules.specs.Buffer.{encode}
 use Rattle.rules.specs.Rules.{put, freshOf}
 use Rattle.runs.proofs.Stores.{set-n, set-k, place, put-x, Place, first, second, inX, inY}
 use Rattle.runs.specs.Promises.{freshRefusal, FreshPromise}
-use Rattle.runs.specs.Ready.{nothing}
-use Rattle.sets.proofs.Range.{range-says}
+use Rattle.runs.specs.Inner.{nothing}
+use Rattle.sets.proofs.Range.{range-says, full-set}
+use Rattle.sets.specs.Said.{IsFull}
+use Rattle.sets.specs.declared.Full.{Full}
 use Rattle.sets.proofs.Tests.{same-or, Says, pass, fail}
 use Rattle.sets.specs.Sets.{Set, empty, full, sizeRefusal}
 
@@ -26,7 +28,7 @@ no-word (suc (suc zero)) = refl
 no-word (suc (suc (suc zero))) = refl
 no-word (suc (suc (suc (suc q)))) = refl
 
-pub nothing-is : (b : List ℕ) → length b ≡ 2066 → ((i : ℕ) → i < 2066 → getD b i 0 ≡ 0) → b ≡ encode nothing
+nothing-is : (b : List ℕ) → length b ≡ 2066 → ((i : ℕ) → i < 2066 → getD b i 0 ≡ 0) → b ≡ encode nothing
 nothing-is b len h = ext-getD 0 b (encode nothing) (len ∙ sym (encode-length nothing)) (λ i l. h i (omega arith) ∙ sym (at i (place i (omega arith))))
   where
     at : (i : ℕ) → Place i → getD (encode nothing) i 0 ≡ 0
@@ -35,39 +37,69 @@ nothing-is b len h = ext-getD 0 b (encode nothing) (len ∙ sym (encode-length n
     at i (inX a c w la lc e) = at-x nothing a c i la lc e ∙ no-word c
     at i (inY a c w la lc e) = at-y nothing a c i la lc e ∙ no-word c
 
-pub zero-more : (b : List ℕ) (j : ℕ) → j < length b → ((i : ℕ) → i < j → getD b i 0 ≡ 0) → (i : ℕ) → i < j + 1 → getD (set b j 0) i 0 ≡ 0
+-- the loop of `clear`: every word below j is 0
+pub record Clearing (buf : List ℕ) (j : ℕ) : Type 0 where
+  pub in-range : j ≤ 2066
+  pub long : length buf ≡ 2066
+  pub zeros : (i : ℕ) → i < j → getD buf i 0 ≡ 0
+
+zero-more : (b : List ℕ) (j : ℕ) → j < length b → ((i : ℕ) → i < j → getD b i 0 ≡ 0) → (i : ℕ) → i < j + 1 → getD (set b j 0) i 0 ≡ 0
 zero-more b j l h i m =
     elim (same-or i j) [
       | inl q ↦ rw q (getD-set-same b j 0 0 l)
       | inr n ↦ getD-set-other b j i 0 0 n ∙ h i (omega (arith, n))
     ]
 
-pub fresh-is : (N : ℕ) (b1 b2 b3 b4 : List ℕ) (v : Set) → length v ≡ 4 → v ≡ full N → b1 ≡ encode nothing → b2 ≡ sets b1 6 v → b3 ≡ set b2 0 2 → b4 ≡ set b3 1 2
+pub clear-begins : (b : List ℕ) → length b ≡ 2066 → Clearing b 0
+clear-begins b e = record { in-range = omega arith; long = e; zeros = λ i l. absurd (omega arith) }
+
+pub clear-goes : (b : List ℕ) (j : ℕ) → Clearing b j → j < 2066 → Clearing (set b j 0) (j + 1)
+clear-goes b j v l =
+    record { in-range = omega arith; long = length-set b j 0 ∙ v .long; zeros = zero-more b j (omega (arith, v .long)) (v .zeros) }
+
+pub clear-ends : (b : List ℕ) (j : ℕ) → Clearing b j → 2066 ≤ j → b ≡ encode nothing
+clear-ends b j v l = nothing-is b (v .long) (λ i h. v .zeros i (omega arith))
+
+fresh-is : (N : ℕ) (b1 b2 b3 b4 : List ℕ) (v : Set) → length v ≡ 4 → v ≡ full N → b1 ≡ encode nothing → b2 ≡ sets b1 6 v → b3 ≡ set b2 0 2 → b4 ≡ set b3 1 2
     → b4 ≡ encode (freshOf N)
 unfolding freshOf
 fresh-is N b1 b2 b3 b4 v four ev e1 e2 e3 e4 =
-    e4 ∙ ap (λ (c : List ℕ). set c 1 2) (e3 ∙ ap (λ (c : List ℕ). set c 0 2) (e2 ∙ ap (λ (c : List ℕ). sets c 6 v) e1 ∙ put-x nothing 1 v four (omega arith)) ∙ set-n _ _) ∙ set-k _ _
+    e4 ∙ ap (λ (c : List ℕ). set c 1 2)
+    (e3 ∙ ap (λ (c : List ℕ). set c 0 2) (e2 ∙ ap (λ (c : List ℕ). sets c 6 v) e1 ∙ put-x nothing 1 v four (omega arith)) ∙ set-n _ _) ∙ set-k _ _
     ∙ ap (λ (w : Set). encode (record { n = 2; k = 2; x = put (λ j. empty) 1 w; y = λ j. empty })) ev
 
--- the refusals
-module _ (N : ℕ) (b : List ℕ) where
-  pub fresh-7 : length b ≢ 2066 → FreshPromise N b b 7
-  unfolding freshRefusal
-  fresh-7 h = record { answer = rw (ne-eqb (length b) 2066 h); buffer = rw (ne-eqb (length b) 2066 h) }
-
-  pub fresh-2 : length b ≡ 2066 → (n : ℕ) → n ≡ sizeRefusal N → n ≢ 0 → FreshPromise N b b n
-  unfolding freshRefusal
-  fresh-2 len n e h = record { answer = rw (eq-eqb (length b) 2066 len) e; buffer = rw (eq-eqb (length b) 2066 len, ← e, ne-eqb n 0 h) }
-
-  pub fresh-0 : length b ≡ 2066 → (n : ℕ) → n ≡ sizeRefusal N → n ≡ 0 → (b′ : List ℕ) → b′ ≡ encode (freshOf N) → FreshPromise N b b′ 0
-  unfolding freshRefusal
-  fresh-0 len n e z b′ q = record { answer = rw (eq-eqb (length b) 2066 len) (sym z ∙ e); buffer = rw (eq-eqb (length b) 2066 len, ← e, eq-eqb n 0 z) q }
-
 -- N is in range where nothing is refused
-pub range-ok : (N n : ℕ) → n ≡ sizeRefusal N → n ≡ 0 → N ≤ 256
+range-ok : (N n : ℕ) → n ≡ sizeRefusal N → n ≡ 0 → N ≤ 256
 unfolding sizeRefusal
 range-ok N n e z = go (range-says N) (sym e ∙ z)
   where
     go : {b : Bool} → Says ((1 ≤ N) × (N ≤ 256)) ((N ≡ 0) ⊎ (256 < N)) b → _≡_ {A = ℕ} (cond b 0 2) 0 → N ≤ 256
     go (pass h) q = h .1
     go (fail h) q = absurd (omega arith)
+
+-- ---- the three returns of `fresh`; r is what `full` answered
+module _ (N : ℕ) (b : List ℕ) where
+  pub fresh-7 : (length b ≡ 2066 → ⊥) → FreshPromise N b b 7
+  unfolding freshRefusal
+  fresh-7 h = record { answer = rw (ne-eqb (length b) 2066 h); buffer = rw (ne-eqb (length b) 2066 h) }
+
+  module _ (len : length b ≡ 2066) (r : Full) (e : IsFull N r) where
+    pub fresh-2 : (r .refusal ≡ 0 → ⊥) → FreshPromise N b b (r .refusal)
+    unfolding freshRefusal
+    fresh-2 h =
+        record {
+          answer = rw (eq-eqb (length b) 2066 len) (e .refusal);
+          buffer = rw (eq-eqb (length b) 2066 len, ← (e .refusal), ne-eqb (r .refusal) 0 h);
+        }
+
+    pub fresh-0 : r .refusal ≡ 0 → length (r .set .words) ≡ 4 → (b1 b2 : List ℕ) → b1 ≡ encode nothing → b2 ≡ sets b1 6 (r .set .words)
+        → FreshPromise N b (set (set b2 0 2) 1 2) 0
+    unfolding freshRefusal
+    fresh-0 z four b1 b2 e1 e2 =
+        let full-is = full-set N r e (range-ok N (r .refusal) (e .refusal) z) in
+        record {
+          answer = rw (eq-eqb (length b) 2066 len) (sym z ∙ e .refusal);
+          buffer =
+              rw (eq-eqb (length b) 2066 len, ← (e .refusal), eq-eqb (r .refusal) 0 z)
+              (fresh-is N b1 b2 (set b2 0 2) (set (set b2 0 2) 1 2) (r .set .words) four full-is e1 e2 refl refl);
+        }

@@ -25,15 +25,15 @@ use Rattle.rules.specs.Rules.{noRoom, conclusion, due, house, State, Result, sa
 use Rattle.rules.specs.Runs.{pick, stop, asks, offered, after, willDo, choose, run, walk, Outcome}
 use Rattle.rules.specs.Table.{Table}
 use Rattle.rules.specs.Walks.{BadReached}
-use Rattle.runs.proofs.Answers.{left-fit, left-back, ran-all, lengths-set, lengths-walk}
-use Rattle.runs.proofs.Reading.{good-by, Words64}
-use Rattle.runs.proofs.Steps.{hints-none, hints-same, hints-more}
+use Rattle.entries.specs.Refusal.{entryRefusal}
+use Rattle.rules.proofs.Ready.{Words64, Good, Ready, good-by, ready-by}
+use Rattle.runs.proofs.Answers.{left-ready, left-back, ran-all, lengths-set, lengths-walk}
+use Rattle.runs.proofs.Choices.{hints-none, hints-same, hints-more}
 use Rattle.runs.proofs.Stores.{place, Place, first, second, inX, inY}
 use Rattle.runs.proofs.Walks.{reached-short}
 use Rattle.runs.specs.Demands.{SaysSafe, SaysReached, Ends, Lent, RunDemand2, RunDemand3, SameVerdict}
 use Rattle.runs.specs.Hints.{hintsAt}
 use Rattle.runs.specs.Promises.{runRefusal, lengthsOk, runAnswer, ran, setAfter, walkAfter, RunPromise}
-use Rattle.runs.specs.Ready.{Ended, Good}
 use Rattle.runs.specs.Said.{said, safe-with, reached-with}
 use Rattle.runs.specs.declared.RunAnswer.{RunAnswer}
 use Rattle.sets.proofs.Members.{proper-length, proper-word, proper-up}
@@ -82,7 +82,8 @@ pick-left true ws a will h = elim (lt-or-ge a (length ws / 4)) [
     go false = refl
 
 module _ (t : Table) (big : t .size ≤ 256) (ws : List ℕ) where
-  pub run-left : (b : ℕ) (hs : List Set) (s : State) → Invariant t s → (a : ℕ) → hs ≡ hintsAt ws a → (run t b hs s) .left ≡ hintsAt ws (a + (run t b hs s) .taken)
+  pub run-left : (b : ℕ) (hs : List Set) (s : State) → Invariant t s → (a : ℕ) → hs ≡ hintsAt ws a
+      → (run t b hs s) .left ≡ hintsAt ws (a + (run t b hs s) .taken)
   unfolding stop after choose
   run-left = run-ind t big (λ b hs s o. (a : ℕ) → hs ≡ hintsAt ws a → o .left ≡ hintsAt ws (a + o .taken))
       (λ b hs s v d a e. e ∙ hints-same ws a)
@@ -101,7 +102,7 @@ lengths-drop a hints set walk set₂ walk₂ e e₁ e₂ =
 
 -- ---- what a run writes
 -- every word of a state's buffer has 64 bits
-encode-words : (t : Table) → t .size ≤ 256 → (s : State) → Invariant t s → Normal t s → Words64 (encode s)
+encode-words : (t : Table) → t .size ≤ 256 → (s : State) → Invariant t s → Normal (t .size) s → Words64 (encode s)
 encode-words t big s v m i = elim (lt-or-ge i 2066) [
   | inl l ↦ at i (place i l)
   | inr l ↦ rw (List·getD-eq-default (encode s) 0 {n = i} (omega (arith, encode-length s))) (omega arith)
@@ -164,7 +165,7 @@ module _ (t : Table) (hints b set walk : List ℕ) (l : Lent t hints b set walk)
   passes = inv-entry t (decode b) (fit .inv)
 
   not-refused : runRefusal t b (lengthsOk hints set walk) ≡ 0
-  unfolding runRefusal
+  unfolding entryRefusal
   not-refused = rw (eq-eqb (length b) 2066 (l .long), eq-eqb (length (t .rows)) 1024 (l .rows), l .lengths, l .range, l .sound, l .entry)
 
   module _ (budget : ℕ) (b′ set′ walk′ : List ℕ) (r : answer.RunAnswer) (p : RunPromise t hints budget b b′ set set′ walk walk′ r) where
@@ -194,7 +195,7 @@ module _ (t : Table) (hints b set walk : List ℕ) (l : Lent t hints b set walk)
     left-buffer = rw (not-refused, was-run) at (p .buffer)
 
     pub left-state : decode b′ ≡ o .state
-    left-state = left-back t good b fit budget hints (l .hint-words) b′ left-buffer
+    left-state = left-back t b (ready-by good fit) budget hints (l .hint-words) b′ left-buffer
 
     pub left-hints : o .left ≡ hintsAt hints (o .taken)
     left-hints = run-left t big hints budget (hintsAt hints 0) (decode b) (fit .inv) 0 refl ∙ ap (λ a. hintsAt hints a) (zero-add (o .taken))
@@ -232,7 +233,7 @@ module _ (t : Table) (hints b set walk : List ℕ) (l : Lent t hints b set walk)
     walk-written e = rw (not-refused, e) at (p .walk-is)
 
     left-fits : Fit t b′
-    left-fits = left-fit t good b fit budget hints (l .hint-words) b′ left-buffer
+    left-fits = (left-ready t b (ready-by good fit) budget hints (l .hint-words) b′ left-buffer) .fit
 
     few : o .result ≡ reached → o .state .n ≤ 257
     few e =

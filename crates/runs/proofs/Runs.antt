@@ -1,27 +1,32 @@
--- A run, rule by rule over a buffer.
+-- A run, rule by rule over a buffer: the invariant of the loop, and how it begins, goes on and ends.
 use Prim.Native.Nat.{ℕ, suc, _+_, _-_, _≤_, _<_}
 use native.Mathlib.Nat.{zero-add, add-assoc, add-zero}
 use native.Mathlib.Omega.{arith}
-use mathlib.Core.Bool.{Bool, true, false}
-use mathlib.Core.List.{List, [], _∷_}
+use mathlib.Core.Bool.{Bool, true, false, not}
+use mathlib.Core.List.{List}
 use mathlib.Core.Logic.{_≢_}
 use mathlib.Core.Path.{_≡_, sym, ap, _∙_}
 use Rattle.rules.proofs.Ends.{run-none, run-done, run-open}
-use Rattle.rules.proofs.Held.{Fit}
 use Rattle.rules.proofs.Invariant.{Open}
+use Rattle.rules.proofs.Ready.{Words64, Ready}
 use Rattle.rules.specs.Buffer.{encode, decode}
-use Rattle.rules.specs.Rules.{conclusion, due, house, fire, unfinished}
-use Rattle.rules.specs.Runs.{pick, stop, asks, offered, after, willDo, choose, next, run, Choice, Outcome}
-use Rattle.rules.specs.Table.{Table}
-use Rattle.runs.proofs.Reading.{Words64}
-use Rattle.runs.proofs.Steps.{hints-words, step-fit, step-back}
-use Rattle.runs.specs.Hints.{hintsAt, chosen}
-use Rattle.runs.specs.Ready.{Ended, Good, Stepped}
-use Rattle.runs.specs.Said.{standingOf}
-use Rattle.runs.specs.declared.Standing.{Standing}
-use Rattle.sets.specs.Sets.{Set}
+use Rattle.rules.specs.Rules.{conclusion, conclusionOf, unfinished}
 use Rattle.rules.specs.Runs as runs
-use Rattle.runs.specs.declared.Standing as standing
+use Rattle.rules.specs.Runs.{stop, after, choose, next, run, lacksRoomFor, Choice}
+use lib.ListN.{getD, replicate}
+use Rattle.runs.proofs.Enums.{stands-by, concluded, still-open}
+use Rattle.runs.specs.declared.Rule as code
+use Rattle.sets.proofs.Tests.{clash}
+use Rattle.rules.specs.Table.{Table}
+use Rattle.runs.proofs.Choices.{hints-words}
+use Rattle.runs.proofs.Closing.{looks-all, looks-next}
+use Rattle.runs.proofs.Memo.{remembers-none}
+use Rattle.runs.proofs.Steps.{step-ready, step-back, step-few, room, lacks-none}
+use Rattle.runs.specs.Hints.{hintsAt}
+use Rattle.runs.specs.Inner.{Stands, IsDue, Remembers, Looks, Stepped, Ended}
+use Rattle.runs.specs.Said.{standingOf, isOpen, asRule}
+use Rattle.runs.specs.declared.Standing.{Standing}
+use Rattle.runs.specs.declared.search.Ran.{Ran}
 
 -- a run that has fired f rules already, taken a and used u hints
 unfoldable pub ahead : ℕ → ℕ → ℕ → runs.Outcome → runs.Outcome
@@ -31,57 +36,106 @@ ahead-after : (f a u : ℕ) (c : Choice) (o : runs.Outcome) → ahead f a u (aft
 unfolding ahead after
 ahead-after f a u c o = simp add-assoc
 
-pub stepped-by : (t : Table) (ws : List ℕ) (a : ℕ) (b b′ : List ℕ) (z : Set) (tk us : ℕ)
-    → choose t (hintsAt ws a) (decode b) ≡ chosen z (hintsAt ws (a + tk)) tk us → b′ ≡ encode (fire t (due t (decode b)) (decode b) z) → Stepped t ws a b b′ tk us
-unfolding runs.next
-stepped-by t ws a b b′ z tk us e q = record { next = rw e q; left = rw e; took = rw e; uses = rw e }
+-- the loop, f rules on: o is what the whole run comes to
+pub record Running (t : Table) (ws : List ℕ) (budget : ℕ) (o : runs.Outcome) (buf : List ℕ) (f a u : ℕ) : Type 0 where
+  -- the buffer is ready for the next rule
+  pub ready : Ready t buf
+  -- the whole run is the run from here, with what it has done already
+  pub rest : o ≡ ahead f a u (run t (budget - f) (hintsAt ws a) (decode buf))
+  pub in-budget : f ≤ budget
+  pub in-fired : a ≤ f
+  pub in-taken : u ≤ a
 
-few : (b : Bool) (hs : List Set) (ok : Set → Bool) (h : Set) → ((pick b hs ok h) .taken ≤ 1) × ((pick b hs ok h) .used ≤ (pick b hs ok h) .taken)
-unfolding pick offered
-few false hs ok h = (omega arith, omega arith)
-few true [] ok h = (omega arith, omega arith)
-few true (z ∷ hs) ok h = go (ok z)
-  where
-    go : (c : Bool) → ((offered c z h hs) .taken ≤ 1) × ((offered c z h hs) .used ≤ (offered c z h hs) .taken)
-    go true = (omega arith, omega arith)
-    go false = (omega arith, omega arith)
-
-pub step-few : (t : Table) (ws : List ℕ) (a : ℕ) (b b′ : List ℕ) (tk us : ℕ) → Stepped t ws a b b′ tk us → (tk ≤ 1) × (us ≤ tk)
-unfolding choose
-step-few t ws a b b′ tk us p =
-    let q = few (asks (due t (decode b))) (hintsAt ws a) (willDo t (decode b)) (house t (due t (decode b)) (decode b)) in
-    (rw (p .took) at (q .0), rw (p .took, p .uses) at (q .1))
-
--- the run from the start is the run from here, with what it has done already
-abbrev pub Ahead : Table → runs.Outcome → List ℕ → ℕ → ℕ → ℕ → ℕ → List ℕ → Type 0
-Ahead t o ws budget f a u b = o ≡ ahead f a u (run t (budget - f) (hintsAt ws a) (decode b))
-
-pub ahead-start : (t : Table) (ws : List ℕ) (budget : ℕ) (b : List ℕ) → Ahead t (run t budget (hintsAt ws 0) (decode b)) ws budget 0 0 0 b
+run-begins : (t : Table) (ws : List ℕ) (budget : ℕ) (b : List ℕ) → Ready t b → Running t ws budget (run t budget (hintsAt ws 0) (decode b)) b 0 0 0
 unfolding ahead
-ahead-start t ws budget b = let e : budget - 0 ≡ budget = omega arith in simp (zero-add, e)
+run-begins t ws budget b v =
+    let e : budget - 0 ≡ budget = omega arith in
+    record { ready = v; rest = simp (zero-add, e); in-budget = omega arith; in-fired = omega arith; in-taken = omega arith }
 
-module _ (t : Table) (o : runs.Outcome) (ws : List ℕ) (budget f a u : ℕ) (b : List ℕ) (h : Ahead t o ws budget f a u b) (v : Fit t b) where
-  ended : run t (budget - f) (hintsAt ws a) (decode b) ≡ stop (conclusion t (decode b)) (hintsAt ws a) (decode b) → (w : standing.Standing) → w ≡ standingOf (conclusion t (decode b)) → Ended o b w f a u
+module _ (t : Table) (ws : List ℕ) (budget : ℕ) (o : runs.Outcome) (b : List ℕ) (f a u : ℕ) (v : Running t ws budget o b f a u) where
+  ended : run t (budget - f) (hintsAt ws a) (decode b) ≡ stop (conclusion t (decode b)) (hintsAt ws a) (decode b) → (w : Standing) → Stands t b w
+      → Ended o b (record { standing = w; rules = f; taken = a; used = u })
   unfolding ahead stop
-  ended e w q = rw (h, e) (record { standing = q; fired = sym (add-zero f); took = sym (add-zero a); uses = sym (add-zero u); buffer = sym (v .held .same) })
+  ended e w q =
+      rw (v .rest, e)
+      (record { standing = q; fired = sym (add-zero f); took = sym (add-zero a); uses = sym (add-zero u); buffer = sym (v .ready .fit .held .same) })
 
-  pub end-spent : f ≡ budget → (w : standing.Standing) → w ≡ standingOf (conclusion t (decode b)) → Ended o b w f a u
-  end-spent l = let e : budget - f ≡ 0 = omega arith in ended (rw e (run-none t (hintsAt ws a) (decode b)))
+  -- the budget is spent; the run has concluded
+  pub run-spent : f ≡ budget → (w : Standing) → Stands t b w → Ended o b (record { standing = w; rules = f; taken = a; used = u })
+  run-spent l = let e : budget - f ≡ 0 = omega arith in ended (rw e (run-none t (hintsAt ws a) (decode b)))
 
-  pub end-done : conclusion t (decode b) ≢ unfinished → (w : standing.Standing) → w ≡ standingOf (conclusion t (decode b)) → Ended o b w f a u
-  end-done n = ended (run-done t (budget - f) (hintsAt ws a) (decode b) n)
+  pub run-concluded : conclusion t (decode b) ≢ unfinished → (w : Standing) → Stands t b w → Ended o b (record { standing = w; rules = f; taken = a; used = u })
+  run-concluded n = ended (run-done t (budget - f) (hintsAt ws a) (decode b) n)
 
-  pub turn : Good t → Words64 ws → Open t (decode b) → f < budget → (b′ : List ℕ) (tk us : ℕ) → Stepped t ws a b b′ tk us
-      → Fit t b′ × Ahead t o ws budget (f + 1) (a + tk) (u + us) b′
-  turn good w op l b′ tk us p =
-      (step-fit t good b v op (hintsAt ws a) (hints-words ws w a) b′ (p .next), h ∙ more)
+  -- one rule more
+  pub run-goes : Words64 ws → Open t (decode b) → (f ≡ budget → ⊥) → (b′ : List ℕ) (taken used lo hi : ℕ)
+      → Stepped t ws a b b′ taken used lo hi → Running t ws budget o b′ (f + 1) (a + taken) (u + used)
+  run-goes w op n b′ taken used lo hi p =
+      let q = step-few t ws a b b′ taken used lo hi p in
+      record {
+        ready = step-ready t b (v .ready) op (hintsAt ws a) (hints-words ws w a) b′ (p .next);
+        rest = v .rest ∙ more;
+        in-budget = omega (arith, v .in-budget, n);
+        in-fired = omega (arith, v .in-fired, q .0);
+        in-taken = omega (arith, v .in-taken, q .1);
+      }
     where
-      more : ahead f a u (run t (budget - f) (hintsAt ws a) (decode b)) ≡ ahead (f + 1) (a + tk) (u + us) (run t (budget - (f + 1)) (hintsAt ws (a + tk)) (decode b′))
+      more : ahead f a u (run t (budget - f) (hintsAt ws a) (decode b)) ≡ ahead (f + 1) (a + taken) (u + used)
+          (run t (budget - (f + 1)) (hintsAt ws (a + taken)) (decode b′))
       more =
-          let e : budget - f ≡ suc (budget - (f + 1)) = omega arith in
+          let e : budget - f ≡ suc (budget - (f + 1)) = omega (arith, v .in-budget, n) in
           let c : Choice = choose t (hintsAt ws a) (decode b) in
-          let q : next t c (decode b) ≡ decode b′ = sym (step-back t good b v op (hintsAt ws a) (hints-words ws w a) b′ (p .next)) in
+          let q : next t c (decode b) ≡ decode b′ = sym (step-back t b (v .ready) op (hintsAt ws a) (hints-words ws w a) b′ (p .next)) in
           ap (λ (m : ℕ). ahead f a u (run t m (hintsAt ws a) (decode b))) e
-          ∙ ap (ahead f a u) (run-open t (good .big) (budget - (f + 1)) (hintsAt ws a) (decode b) (v .inv) op)
+          ∙ ap (ahead f a u) (run-open t (v .ready .good .big) (budget - (f + 1)) (hintsAt ws a) (decode b) (v .ready .fit .inv) op)
           ∙ ahead-after f a u c (run t (budget - (f + 1)) (c .left) (next t c (decode b)))
           ∙ (λ i. ahead (f + 1) (a + p .took i) (u + p .uses i) (run t (budget - (f + 1)) (p .left i) (q i)))
+
+  -- the budget is spent, or the run has concluded: w is how it stands, r what `is_open` answered
+  module _ (w : Standing) (ew : w ≡ standingOf (conclusionOf 256 (t .starts) (decode b))) where
+    stands : Stands t b w
+    stands = stands-by t b w (v .ready) ew
+
+    pub end-spent : f ≡ budget → Ended o b (record { standing = w; rules = f; taken = a; used = u })
+    end-spent l = run-spent l w stands
+
+    pub end-concluded : (r : Bool) → r ≡ isOpen w → not r ≡ true → Ended o b (record { standing = w; rules = f; taken = a; used = u })
+    end-concluded r e n = run-concluded (concluded t b w stands r e n) w stands
+
+-- the loop of `advance`: a run, its memo, and where it can have concluded
+pub record Going (t : Table) (ws : List ℕ) (budget : ℕ) (o : runs.Outcome) (buf memo : List ℕ) (f a u lo hi : ℕ) : Type 0 where
+  pub running : Running t ws budget o buf f a u
+  -- what g was asked for
+  pub kept : Remembers (t .size) (t .rows) memo
+  -- only from lo up to hi can it have concluded safe
+  pub looks : Looks buf lo hi
+
+pub going : (t : Table) (ws : List ℕ) (budget : ℕ) (b : List ℕ) (hi : ℕ) → Ready t b → hi ≡ getD b 0 0 - 1
+    → Going t ws budget (run t budget (hintsAt ws 0) (decode b)) b (replicate 2064 0) 0 0 0 0 hi
+going t ws budget b hi v e =
+    record { running = run-begins t ws budget b v; kept = remembers-none (t .size) (t .rows); looks = looks-all b hi (v .spans) e }
+
+-- a turn in which a rule is fired: neither is so
+pub record Turning (t : Table) (ws : List ℕ) (budget : ℕ) (o : runs.Outcome) (buf : List ℕ) (f a u : ℕ) : Type 0 where
+  pub running : Running t ws budget o buf f a u
+  pub more : f < budget
+  pub opened : Open t (decode buf)
+  pub place : getD buf 0 0 < 258
+
+module _ {t : Table} {ws : List ℕ} {budget : ℕ} {o : runs.Outcome} {b : List ℕ} {f a u : ℕ} where
+  pub turning : Running t ws budget o b f a u → {w : Standing} → w ≡ standingOf (conclusionOf 256 (t .starts) (decode b)) → (f ≡ budget → ⊥)
+      → {r : Bool} → r ≡ isOpen w → not r ≡ false → Turning t ws budget o b f a u
+  turning v {w} ew m {r} e n =
+      let op = still-open t b w (stands-by t b w (v .ready) ew) r e n in
+      record { running = v; more = omega (arith, v .in-budget, m); opened = op; place = room t b (v .ready) op }
+
+  pub never-full : Turning t ws budget o b f a u → {rule : code.Rule} → IsDue t b rule → {q : Bool} → q ≡ lacksRoomFor (asRule rule) (getD b 0 0)
+      → q ≡ true → {x : Ran} {b′ : List ℕ} → Ended o b′ x
+  never-full v {rule} d {q} e y = absurd (clash y (lacks-none t b rule q (v .running .ready) d (v .opened) e))
+
+  pub goes-on : Turning t ws budget o b f a u → Words64 ws → {b′ m : List ℕ} {taken used lo hi : ℕ} → Remembers (t .size) (t .rows) m
+      → Stepped t ws a b b′ taken used lo hi → Going t ws budget o b′ m (f + 1) (a + taken) (u + used) lo hi
+  goes-on v words {b′} {m} {taken} {used} {lo} {hi} k p =
+      let on = run-goes t ws budget o b f a u (v .running) words (v .opened) (λ e. omega (arith, v .more)) b′ taken used lo hi p in
+      let back = step-back t b (v .running .ready) (v .opened) (hintsAt ws a) (hints-words ws words a) b′ (p .next) in
+      record { running = on; kept = k; looks = looks-next t b′ _ lo hi (on .ready) back (p .closing) }

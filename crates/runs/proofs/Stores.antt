@@ -6,23 +6,24 @@ use mathlib.Core.Bool.{cond}
 use mathlib.Core.List.{List, [], _∷_}
 use mathlib.Core.Logic.{_⊎_, inl, inr}
 use mathlib.Core.Path.{_≡_, refl, sym, ap, _∙_, fun-ext}
+use borrow.Author.Tests.{lt-ltb}
 use lib.Dec.{ltb}
 use lib.ListN.{length, getD, set, length-set}
 use lib.Seq.{sets, length-sets, ext-getD, getD-set-same, getD-set-other}
 use Rattle.rules.proofs.Buffer.{at-x, at-y, encode-n, encode-k, encode-length}
 use Rattle.rules.proofs.Invariant.{put-same, put-other, cut-low, cut-high}
 use Rattle.rules.specs.Buffer.{encode, decode}
-use Rattle.rules.specs.Rules.{put, cut, fire, State, Unfold, Candidate, Decide, Conflict}
-use Rattle.rules.specs.Table.{Table}
-use Rattle.runs.specs.Ready.{Ready}
-use Rattle.sets.proofs.Members.{proper-length}
+use Rattle.rules.proofs.Reading.{n-is, k-is}
+use Rattle.rules.proofs.Ready.{Spans, Holds}
+use Rattle.runs.specs.Inner.{Untouched}
+use Rattle.sets.proofs.Members.{proper-length, proper-of}
+use Rattle.rules.specs.Rules.{put, cut, afterUnfold, afterCandidate, afterDecide, afterConflict, State}
 use Rattle.sets.proofs.Tests.{passes, fails, leb-says, lt-or-ge, same-or}
-use Rattle.sets.proofs.Within.{meet-256}
 use Rattle.sets.proofs.Words.{four-of}
 use Rattle.sets.specs.Sets.{Set, empty, full, meet, quad}
 
 -- reading outside of what was stored, and in it
-getD-sets-out : (vs l : List ℕ) (i k : ℕ) → (k < i) ⊎ (i + length vs ≤ k) → getD (sets l i vs) k 0 ≡ getD l k 0
+pub getD-sets-out : (vs l : List ℕ) (i k : ℕ) → (k < i) ⊎ (i + length vs ≤ k) → getD (sets l i vs) k 0 ≡ getD l k 0
 getD-sets-out [] l i k h = refl
 getD-sets-out (v ∷ vs) l i k h =
     getD-sets-out vs (set l i v) (suc i) k (elim h [ inl a ↦ inl (omega arith) | inr b ↦ inr (omega arith) ])
@@ -82,13 +83,17 @@ module _ (s : State) (j : ℕ) (v : Set) (four : length v ≡ 4) (l : j < 258) w
       at : (i : ℕ) → Place i → getD (sets (encode s) (2 + 4 * j) v) i 0 ≡ getD (encode (withX s (put (s .x) j v))) i 0
       at i first = getD-sets-out v (encode s) (2 + 4 * j) 0 (inl (omega arith)) ∙ encode-n s ∙ sym (encode-n (withX s (put (s .x) j v)))
       at i second = getD-sets-out v (encode s) (2 + 4 * j) 1 (inl (omega arith)) ∙ encode-k s ∙ sym (encode-k (withX s (put (s .x) j v)))
-      at i (inY a c w la lc e) = getD-sets-out v (encode s) (2 + 4 * j) i (inr (omega arith)) ∙ at-y s a c i la lc e ∙ sym (at-y (withX s (put (s .x) j v)) a c i la lc e)
+      at i (inY a c w la lc e) = getD-sets-out v (encode s) (2 + 4 * j) i (inr (omega arith)) ∙ at-y s a c i la lc e
+          ∙ sym (at-y (withX s (put (s .x) j v)) a c i la lc e)
       at i (inX a c w la lc e) =
           elim (same-or a j) [
             | inl q ↦ let e′ : i ≡ 2 + 4 * j + c = omega arith in
                 let d : getD (put (s .x) j v a) c 0 ≡ getD v c 0 = rw (q, put-same) in
-                ap (λ (w : ℕ). getD (sets (encode s) (2 + 4 * j) v) w 0) e′ ∙ getD-sets-in v (encode s) (2 + 4 * j) c (omega arith) (omega (arith, encode-length s)) ∙ sym (at-x (withX s (put (s .x) j v)) a c i la lc e ∙ d)
-            | inr n ↦ getD-sets-out v (encode s) (2 + 4 * j) i (elim (lt-or-ge a j) [ inl h ↦ inl (omega arith) | inr h ↦ inr (let d : j < a = omega (arith, n) in omega arith) ])
+                ap (λ (w : ℕ). getD (sets (encode s) (2 + 4 * j) v) w 0) e′
+                ∙ getD-sets-in v (encode s) (2 + 4 * j) c (omega arith) (omega (arith, encode-length s))
+                ∙ sym (at-x (withX s (put (s .x) j v)) a c i la lc e ∙ d)
+            | inr n ↦ getD-sets-out v (encode s) (2 + 4 * j) i
+                (elim (lt-or-ge a j) [ inl h ↦ inl (omega arith) | inr h ↦ inr (let d : j < a = omega (arith, n) in omega arith) ])
                 ∙ at-x s a c i la lc e ∙ sym (at-x (withX s (put (s .x) j v)) a c i la lc e ∙ ap (λ (w : Set). getD w c 0) (put-other (s .x) j v a n))
           ]
 
@@ -99,13 +104,17 @@ module _ (s : State) (j : ℕ) (v : Set) (four : length v ≡ 4) (l : j < 258) w
       at : (i : ℕ) → Place i → getD (sets (encode s) (1034 + 4 * j) v) i 0 ≡ getD (encode (withY s (put (s .y) j v))) i 0
       at i first = getD-sets-out v (encode s) (1034 + 4 * j) 0 (inl (omega arith)) ∙ encode-n s ∙ sym (encode-n (withY s (put (s .y) j v)))
       at i second = getD-sets-out v (encode s) (1034 + 4 * j) 1 (inl (omega arith)) ∙ encode-k s ∙ sym (encode-k (withY s (put (s .y) j v)))
-      at i (inX a c w la lc e) = getD-sets-out v (encode s) (1034 + 4 * j) i (inl (omega arith)) ∙ at-x s a c i la lc e ∙ sym (at-x (withY s (put (s .y) j v)) a c i la lc e)
+      at i (inX a c w la lc e) = getD-sets-out v (encode s) (1034 + 4 * j) i (inl (omega arith)) ∙ at-x s a c i la lc e
+          ∙ sym (at-x (withY s (put (s .y) j v)) a c i la lc e)
       at i (inY a c w la lc e) =
           elim (same-or a j) [
             | inl q ↦ let e′ : i ≡ 1034 + 4 * j + c = omega arith in
                 let d : getD (put (s .y) j v a) c 0 ≡ getD v c 0 = rw (q, put-same) in
-                ap (λ (w : ℕ). getD (sets (encode s) (1034 + 4 * j) v) w 0) e′ ∙ getD-sets-in v (encode s) (1034 + 4 * j) c (omega arith) (omega (arith, encode-length s)) ∙ sym (at-y (withY s (put (s .y) j v)) a c i la lc e ∙ d)
-            | inr n ↦ getD-sets-out v (encode s) (1034 + 4 * j) i (elim (lt-or-ge a j) [ inl h ↦ inl (omega arith) | inr h ↦ inr (let d : j < a = omega (arith, n) in omega arith) ])
+                ap (λ (w : ℕ). getD (sets (encode s) (1034 + 4 * j) v) w 0) e′
+                ∙ getD-sets-in v (encode s) (1034 + 4 * j) c (omega arith) (omega (arith, encode-length s))
+                ∙ sym (at-y (withY s (put (s .y) j v)) a c i la lc e ∙ d)
+            | inr n ↦ getD-sets-out v (encode s) (1034 + 4 * j) i
+                (elim (lt-or-ge a j) [ inl h ↦ inl (omega arith) | inr h ↦ inr (let d : j < a = omega (arith, n) in omega arith) ])
                 ∙ at-y s a c i la lc e ∙ sym (at-y (withY s (put (s .y) j v)) a c i la lc e ∙ ap (λ (w : Set). getD w c 0) (put-other (s .y) j v a n))
           ]
 
@@ -113,43 +122,42 @@ module _ (s : State) (j : ℕ) (v : Set) (four : length v ≡ 4) (l : j < 258) w
 pub quad-four : (s : State) (j : ℕ) → j < 258 → length (s .x j) ≡ 4 → quad (encode s) (2 + 4 * j) ≡ s .x j
 unfolding quad
 quad-four s j l e =
-    rw (at-x s j 0 (2 + 4 * j) l (omega arith) (omega arith), at-x s j 1 (2 + 4 * j + 1) l (omega arith) (omega arith), at-x s j 2 (2 + 4 * j + 2) l (omega arith) (omega arith), at-x s j 3 (2 + 4 * j + 3) l (omega arith) (omega arith))
+    rw (
+      at-x s j 0 (2 + 4 * j) l (omega arith) (omega arith),
+      at-x s j 1 (2 + 4 * j + 1) l (omega arith) (omega arith),
+      at-x s j 2 (2 + 4 * j + 2) l
+          (omega arith) (omega arith),
+      at-x s j 3 (2 + 4 * j + 3) l (omega arith) (omega arith),
+    )
     (sym (four-of (s .x j) e))
 
 -- ---- the rules' stores
-module _ (t : Table) (b : List ℕ) (r : Ready t b) where
+module _ (b : List ℕ) (h : Holds b) where
   same : b ≡ encode (decode b)
-  same = sym (r .held .same)
+  same = sym (h .same)
 
-  n-is : getD b 0 0 ≡ (decode b) .n
-  unfolding decode
-  n-is = refl
+  pub fired-unfold : (N : ℕ) (v : Set) (b1 : List ℕ) → getD b 0 0 < 258 → length v ≡ 4 → v ≡ full N → b1 ≡ sets b (2 + 4 * getD b 0 0) v
+      → set (set b1 0 (getD b 0 0 + 1)) 1 (getD b 0 0 + 1) ≡ encode (afterUnfold N (decode b))
+  fired-unfold N v b1 l four ev e1 =
+      let d1 : b1 ≡ encode (withX (decode b) (put ((decode b) .x) (getD b 0 0) v)) =
+      e1 ∙ ap (λ c. sets c (2 + 4 * getD b 0 0) v) same ∙ put-x (decode b) (getD b 0 0) v four l in
+      ap (λ c. set c 1 (getD b 0 0 + 1)) (ap (λ c. set c 0 (getD b 0 0 + 1)) d1 ∙ set-n _ _) ∙ set-k _ _ ∙ rw (ev, n-is b)
 
-  k-is : getD b 1 0 ≡ (decode b) .k
-  unfolding decode
-  k-is = refl
+  pub fired-candidate : (z : Set) (b1 : List ℕ) → length z ≡ 4 → b1 ≡ sets b (1034 + 4 * (getD b 0 0 - 1)) z
+      → set b1 1 (getD b 0 0 - 1) ≡ encode (afterCandidate (decode b) z)
+  fired-candidate z b1 four e1 =
+      let d1 : b1 ≡ encode (withY (decode b) (put ((decode b) .y) (getD b 0 0 - 1) z)) =
+      e1 ∙ ap (λ c. sets c (1034 + 4 * (getD b 0 0 - 1)) z) same
+      ∙ put-y (decode b) (getD b 0 0 - 1) z four (omega (arith, h .spans .two, h .spans .room)) in
+      ap (λ c. set c 1 (getD b 0 0 - 1)) d1 ∙ set-k _ _ ∙ rw (n-is b)
 
-  pub fired-unfold : (v z : Set) (b1 b2 b3 : List ℕ) → getD b 0 0 < 258 → length v ≡ 4 → v ≡ full (t .size) → b1 ≡ sets b (2 + 4 * getD b 0 0) v → b2 ≡ set b1 0 (getD b 0 0 + 1) → b3 ≡ set b2 1 (getD b 0 0 + 1)
-      → b3 ≡ encode (fire t Unfold (decode b) z)
-  unfolding fire
-  fired-unfold v z b1 b2 b3 l four ev e1 e2 e3 =
-      let d1 : b1 ≡ encode (withX (decode b) (put ((decode b) .x) (getD b 0 0) v)) = e1 ∙ ap (λ (c : List ℕ). sets c (2 + 4 * getD b 0 0) v) same ∙ put-x (decode b) (getD b 0 0) v four l in
-      e3 ∙ ap (λ (c : List ℕ). set c 1 (getD b 0 0 + 1)) (e2 ∙ ap (λ (c : List ℕ). set c 0 (getD b 0 0 + 1)) d1 ∙ set-n _ _) ∙ set-k _ _
-      ∙ rw (ev, n-is)
-
-  pub fired-candidate : (z : Set) (b1 b2 : List ℕ) → length z ≡ 4 → b1 ≡ sets b (1034 + 4 * (getD b 0 0 - 1)) z → b2 ≡ set b1 1 (getD b 0 0 - 1)
-      → b2 ≡ encode (fire t Candidate (decode b) z)
-  unfolding fire
-  fired-candidate z b1 b2 four e1 e2 =
-      let d1 : b1 ≡ encode (withY (decode b) (put ((decode b) .y) (getD b 0 0 - 1) z)) = e1 ∙ ap (λ (c : List ℕ). sets c (1034 + 4 * (getD b 0 0 - 1)) z) same ∙ put-y (decode b) (getD b 0 0 - 1) z four (omega (arith, r .two, r .cap, r .good .big)) in
-      e2 ∙ ap (λ (c : List ℕ). set c 1 (getD b 0 0 - 1)) d1 ∙ set-k _ _ ∙ rw n-is
-
-  pub fired-decide : (z : Set) (b1 b2 : List ℕ) → length z ≡ 4 → b1 ≡ sets b (1034 + 4 * (getD b 1 0 - 1)) z → b2 ≡ set b1 1 (getD b 1 0 - 1)
-      → b2 ≡ encode (fire t Decide (decode b) z)
-  unfolding fire
-  fired-decide z b1 b2 four e1 e2 =
-      let d1 : b1 ≡ encode (withY (decode b) (put ((decode b) .y) (getD b 1 0 - 1) z)) = e1 ∙ ap (λ (c : List ℕ). sets c (1034 + 4 * (getD b 1 0 - 1)) z) same ∙ put-y (decode b) (getD b 1 0 - 1) z four (omega (arith, r .two, r .cap, r .good .big, r .le, r .pos)) in
-      e2 ∙ ap (λ (c : List ℕ). set c 1 (getD b 1 0 - 1)) d1 ∙ set-k _ _ ∙ rw k-is
+  pub fired-decide : (z : Set) (b1 : List ℕ) → length z ≡ 4 → b1 ≡ sets b (1034 + 4 * (getD b 1 0 - 1)) z
+      → set b1 1 (getD b 1 0 - 1) ≡ encode (afterDecide (decode b) z)
+  fired-decide z b1 four e1 =
+      let d1 : b1 ≡ encode (withY (decode b) (put ((decode b) .y) (getD b 1 0 - 1) z)) =
+      e1 ∙ ap (λ c. sets c (1034 + 4 * (getD b 1 0 - 1)) z) same
+      ∙ put-y (decode b) (getD b 1 0 - 1) z four (omega (arith, h .spans .pos, h .spans .le, h .spans .room)) in
+      ap (λ c. set c 1 (getD b 1 0 - 1)) d1 ∙ set-k _ _ ∙ rw (k-is b)
 
 -- every set below m met with z: what the loop of Conflict has made
 unfoldable pub cutTo : ℕ → (ℕ → Set) → ℕ → Set → ℕ → Set
@@ -164,8 +172,8 @@ module _ (N : ℕ) (x : ℕ → Set) (z : Set) where
   unfolding cutTo
   cut-above m j l = rw (fails (leb-says (suc j) m) (λ h. omega arith))
 
-  pub cut-none : cutTo N x 0 z ≡ x
-  cut-none = fun-ext (λ j. cut-above 0 j (omega arith))
+  cut-from : (m : ℕ) → ((j : ℕ) → j < m → meet N (x j) z ≡ x j) → cutTo N x m z ≡ x
+  cut-from m h = fun-ext (λ j. elim (lt-or-ge j m) [ inl l ↦ cut-below m j l ∙ h j l | inr l ↦ cut-above m j l ])
 
   pub cut-more : (m : ℕ) → put (cutTo N x m z) m (meet N (x m) z) ≡ cutTo N x (m + 1) z
   cut-more m = fun-ext go
@@ -192,31 +200,53 @@ module _ (N : ℕ) (x : ℕ → Set) (z : Set) where
 unfoldable pub midway : ℕ → List ℕ → Set → ℕ → State
 midway N b z m = withX (decode b) (cutTo N ((decode b) .x) m z)
 
-module _ (t : Table) (b : List ℕ) (r : Ready t b) (z : Set) where
-  pub mid-none : b ≡ encode (midway (t .size) b z 0)
+-- Conflict's loop: the buffer holds the state in which the sets below j are met with z
+pub record Cutting (b : List ℕ) (z : Set) (m : ℕ) (buf : List ℕ) (j : ℕ) : Type 0 where
+  pub in-range : j ≤ m
+  pub holds : buf ≡ encode (midway 256 b z j)
+  pub long : length buf ≡ 2066
+
+module _ (b : List ℕ) (h : Holds b) (z : Set) where
+  pub cut-begins : (m low : ℕ) → Untouched (decode b) z low → m ≡ getD b 1 0 + 1 → Cutting b z m b low
   unfolding midway
-  mid-none = sym (r .held .same) ∙ rw cut-none
+  cut-begins m low u em =
+      record {
+        in-range = omega (arith, u .le, k-is b);
+        holds = sym (h .same) ∙ rw (cut-from 256 ((decode b) .x) z low (u .at));
+        long = h .spans .long;
+      }
 
-  pub mid-read : (c : List ℕ) (m : ℕ) → c ≡ encode (midway (t .size) b z m) → m < 258 → quad c (2 + 4 * m) ≡ (decode b) .x m
+  four-x : (m j : ℕ) → j < getD b 0 0 → length ((decode b) .x j) ≡ 4
+  unfolding decode quad
+  four-x m j l = rw (lt-ltb j (getD b 0 0) l)
+
+  mid-read : (c : List ℕ) (j : ℕ) → c ≡ encode (midway 256 b z j) → j < getD b 0 0 → quad c (2 + 4 * j) ≡ (decode b) .x j
   unfolding midway
-  mid-read c m e l =
-      rw e (quad-four (midway (t .size) b z m) m l (proper-length (t .size) (cutTo (t .size) ((decode b) .x) m z m) (rw (cut-above (t .size) ((decode b) .x) z m m (omega arith)) (r .held .norm .proper-x m))) ∙ cut-above (t .size) ((decode b) .x) z m m (omega arith))
+  mid-read c j e l =
+      let above = cut-above 256 ((decode b) .x) z j j (omega arith) in
+      rw e (quad-four (midway 256 b z j) j (omega (arith, h .spans .room)) (rw above (four-x j j l)) ∙ above)
 
-  pub mid-more : (c d : List ℕ) (m : ℕ) (x w : Set) → c ≡ encode (midway (t .size) b z m) → m < 258 → length w ≡ 4 → x ≡ quad c (2 + 4 * m) → w ≡ meet 256 x z → d ≡ sets c (2 + 4 * m) w
-      → d ≡ encode (midway (t .size) b z (m + 1))
-  unfolding midway
-  mid-more c d m x w e l four ex ew ed =
-      let dw : w ≡ meet (t .size) ((decode b) .x m) z = ew ∙ ap (λ (q : Set). meet 256 q z) (ex ∙ mid-read c m e l) ∙ meet-256 (t .size) (r .good .big) _ z (r .held .norm .proper-x m) in
-      ed ∙ ap (λ (q : List ℕ). sets q (2 + 4 * m) w) e ∙ put-x (midway (t .size) b z m) m w four l
-      ∙ ap (λ (q : ℕ → Set). encode (withX (decode b) q)) (ap (put (cutTo (t .size) ((decode b) .x) m z) m) dw ∙ cut-more (t .size) ((decode b) .x) z m)
+  pub cut-goes : (m : ℕ) (c d : List ℕ) (j : ℕ) (x w : Set) → Cutting b z m c j → j < m → m ≤ getD b 0 0
+      → x ≡ quad c (2 + 4 * j) → w ≡ meet 256 x z → d ≡ sets c (2 + 4 * j) w → Cutting b z m d (j + 1)
+  unfolding midway meet
+  cut-goes m c d j x w v l room ex ew ed =
+      let four : length w ≡ 4 = ap length ew ∙ proper-length 256 _ (proper-of 256 (omega arith) _) in
+      let dw : w ≡ meet 256 ((decode b) .x j) z = ew ∙ ap (λ q. meet 256 q z) (ex ∙ mid-read c j (v .holds) (omega arith)) in
+      record {
+        in-range = omega arith;
+        holds =
+            ed ∙ ap (λ q. sets q (2 + 4 * j) w) (v .holds) ∙ put-x (midway 256 b z j) j w four (omega (arith, h .spans .room))
+            ∙ ap (λ q. encode (withX (decode b) q)) (ap (put (cutTo 256 ((decode b) .x) j z) j) dw ∙ cut-more 256 ((decode b) .x) z j);
+        long = ap length ed ∙ length-sets c (2 + 4 * j) w ∙ v .long;
+      }
 
-  pub mid-last : (c b1 b2 : List ℕ) (v : Set) → c ≡ encode (midway (t .size) b z (getD b 1 0 + 1)) → getD b 1 0 < getD b 0 0 → length v ≡ 4 → v ≡ empty → b1 ≡ sets c (1034 + 4 * getD b 1 0) v → b2 ≡ set b1 1 (getD b 1 0 + 1)
-      → b2 ≡ encode (fire t Conflict (decode b) z)
-  unfolding midway fire
-  mid-last c b1 b2 v e l four ev e1 e2 =
-      e2 ∙ ap (λ (q : List ℕ). set q 1 (getD b 1 0 + 1)) (e1 ∙ ap (λ (q : List ℕ). sets q (1034 + 4 * getD b 1 0) v) e ∙ put-y (midway (t .size) b z (getD b 1 0 + 1)) (getD b 1 0) v four (omega (arith, r .cap, r .good .big)))
-      ∙ set-k _ _ ∙ rw (ev, cut-all, k-is t b r)
-
-pub empty-is : 0 ∷ 0 ∷ 0 ∷ 0 ∷ [] ≡ empty
-unfolding empty
-empty-is = refl
+  pub cut-ends : (m : ℕ) (c b1 : List ℕ) (j : ℕ) → Cutting b z m c j → m ≡ getD b 1 0 + 1 → m ≤ j → getD b 1 0 < getD b 0 0
+      → b1 ≡ sets c (1034 + 4 * getD b 1 0) (0 ∷ 0 ∷ 0 ∷ 0 ∷ []) → set b1 1 (getD b 1 0 + 1) ≡ encode (afterConflict 256 (decode b) z)
+  unfolding midway empty
+  cut-ends m c b1 j v em l k e1 =
+      let q : j ≡ getD b 1 0 + 1 = omega (arith, v .in-range) in
+      let e : c ≡ encode (midway 256 b z (getD b 1 0 + 1)) = rw q at (v .holds) in
+      ap (λ c. set c 1 (getD b 1 0 + 1))
+      (e1 ∙ ap (λ c. sets c (1034 + 4 * getD b 1 0) (0 ∷ 0 ∷ 0 ∷ 0 ∷ [])) e
+      ∙ put-y (midway 256 b z (getD b 1 0 + 1)) (getD b 1 0) (0 ∷ 0 ∷ 0 ∷ 0 ∷ []) refl (omega (arith, h .spans .room)))
+      ∙ set-k _ _ ∙ rw (cut-all, k-is b)

@@ -48,7 +48,8 @@ outcome-one (outcome.the-variants.Refused m) (outcome.the-variants.Refused n) e 
 pub fresh-once : (N : ℕ) (b : List ℕ) {b′ b″ : List ℕ} {r r′ : ℕ} → FreshPromise N b b′ r → FreshPromise N b b″ r′ → (r ≡ r′) × (b′ ≡ b″)
 fresh-once N b p q = (only (p .answer) (q .answer), only (p .buffer) (q .buffer))
 
-pub single-once : (t : Table) (z : Set) (b : List ℕ) {b′ b″ : List ℕ} {r r′ : asked.Asked} → SinglePromise t z b b′ r → SinglePromise t z b b″ r′ → (r ≡ r′) × (b′ ≡ b″)
+pub single-once : (t : Table) (z : Set) (b : List ℕ) {b′ b″ : List ℕ} {r r′ : asked.Asked} → SinglePromise t z b b′ r → SinglePromise t z b b″ r′
+    → (r ≡ r′) × (b′ ≡ b″)
 single-once t z b {r = r} {r′ = r′} p q = (asked-one r r′ (only (p .answer) (q .answer)), only (p .buffer) (q .buffer))
 
 pub run-once : (t : Table) (hints : List ℕ) (budget : ℕ) (b set walk : List ℕ) {b₁ b₂ s₁ s₂ w₁ w₂ : List ℕ} {r r′ : answer.RunAnswer}

@@ -7,18 +7,18 @@ use mathlib.Core.Logic.{inl, inr}
 use mathlib.Core.Option.{Option, none, some}
 use mathlib.Core.Path.{_≡_, refl, sym, ap, _∙_, ap₂}
 use borrow.Author.Tests.{le-ltb}
-use lib.ListN.{getD, set}
+use lib.ListN.{length, getD, set, length-set}
 use lib.Seq.{sets}
 use Rattle.moves.proofs.Rows.{leads-below}
 use Rattle.rules.proofs.Held.{Fit}
 use Rattle.rules.proofs.Invariant.{Invariant}
 use Rattle.rules.specs.Buffer.{decode}
-use Rattle.rules.specs.Rules.{closes, conclusion, State, reached}
+use Rattle.rules.specs.Rules.{closes, concludes, conclusion, conclusionOf, State, reached}
 use Rattle.rules.specs.Runs.{orZero, firstState, nextState, walkFrom, walk}
 use Rattle.rules.specs.Table.{row, leads, soundRow, soundRows, Table}
-use Rattle.runs.proofs.Reading.{y-is}
-use Rattle.runs.proofs.Rules.{none-closes}
-use Rattle.runs.specs.Ready.{Good, Ready}
+use Rattle.rules.proofs.Reading.{y-is, n-is}
+use Rattle.rules.proofs.Ready.{Good, Ready}
+use Rattle.runs.specs.Inner.{Outside}
 use Rattle.sets.proofs.Count.{count-lt, count-max}
 use Rattle.sets.proofs.Members.{proper-past, member-minus, smallest-is}
 use Rattle.sets.proofs.Search.{least-is, least-of, all-says, Least, here, nowhere}
@@ -61,17 +61,17 @@ or-zero-below x = go (smallest x) (smallest-is x)
     go o (nowhere h) = omega arith
 
 -- the two answers of `smallest`
-pub first-member : (x w : Set) (r : small.Smallest) (u : ℕ) → w ≡ x → smallestSaid r ≡ smallest w → r ≡ small.the-variants.Member u → (u ≡ orZero (smallest x)) × (u < 256)
+pub first-member : (a y w : Set) (r : small.Smallest) (u : ℕ) → w ≡ minus 256 a y → smallestSaid r ≡ smallest w → r ≡ small.the-variants.Member u → Outside a y u
 unfolding orZero
-first-member x w r u e s q =
-    let k : some u ≡ smallest x = ap smallestSaid (sym q) ∙ s ∙ ap smallest e in
-    (rw (← k), rw (← k) at (or-zero-below x))
+first-member a y w r u e s q =
+    let k : some u ≡ smallest (minus 256 a y) = ap smallestSaid (sym q) ∙ s ∙ ap smallest e in
+    record { is = rw (← k); small = rw (← k) at (or-zero-below (minus 256 a y)) }
 
-pub first-nothing : (x w : Set) (r : small.Smallest) → w ≡ x → smallestSaid r ≡ smallest w → r ≡ small.the-variants.Nothing → (0 ≡ orZero (smallest x)) × (0 < 256)
+pub first-nothing : (a y w : Set) (r : small.Smallest) → w ≡ minus 256 a y → smallestSaid r ≡ smallest w → r ≡ small.the-variants.Nothing → Outside a y 0
 unfolding orZero
-first-nothing x w r e s q =
-    let k : none ≡ smallest x = ap smallestSaid (sym q) ∙ s ∙ ap smallest e in
-    (rw (← k), omega arith)
+first-nothing a y w r e s q =
+    let k : none ≡ smallest (minus 256 a y) = ap smallestSaid (sym q) ∙ s ∙ ap smallest e in
+    record { is = rw (← k); small = omega arith }
 
 -- a row of a sound table holds no number from N up
 row-empty : (t : Table) → Good t → (s : ℕ) → s < 256 → t .size ≤ s → sound 0 (row (t .rows) s) ≡ true
@@ -93,8 +93,17 @@ next-is : (t : Table) → Good t → (s : ℕ) (y : Set) → s < 256 → orZero 
 unfolding nextState leads
 next-is t good s y l = ap orZero (outside-is (t .size) (row (t .rows) s) y (good .big) (λ u h m. row-past t good s u l h m))
 
+-- a run that is reached has no end in its chain
+pub none-closes : (t : Table) (s : State) → conclusion t s ≡ reached → (j : ℕ) → suc j < s .n → closes (t .size) s j ≡ false
+unfolding conclusionOf concludes closes
+none-closes t s e j l = go (least (s .n - 1) (closes (t .size) s)) _ (least-is (s .n - 1) (closes (t .size) s)) e
+  where
+    go : (o : Option ℕ) (b : Bool) → Least (s .n - 1) (closes (t .size) s) o → concludes o b ≡ reached → closes (t .size) s j ≡ false
+    go o b (here i m r f) q = let z : _≡_ {A = ℕ} 0 1 = cc in absurd (omega arith)
+    go o b (nowhere f) q = f j (omega arith)
+
 -- a chain in which no j closes rises strictly, so it is short
-module _ (t : Table) (s : State) (v : Invariant t s) (none-ends : (j : ℕ) → suc j < s .n → closes t s j ≡ false) where
+module _ (t : Table) (s : State) (v : Invariant t s) (none-ends : (j : ℕ) → suc j < s .n → closes (t .size) s j ≡ false) where
   rising : (j : ℕ) → j < s .n → j ≤ count (t .size) (s .x j)
   unfolding closes
   rising zero l = omega arith
@@ -118,7 +127,8 @@ walk-turn t y w m j at at′ l h =
     ∙ ap (λ (i : ℕ). sets (set w j at) i (walkFrom t (m - (j + 1)) (nextState t at (y (suc (j + 1)))) (suc (j + 1)) y)) q
     ∙ go (m - (j + 1)) refl
   where
-    go : (d : ℕ) → m - (j + 1) ≡ d → sets (set w j at) (j + 1) (walkFrom t d (nextState t at (y (suc (j + 1)))) (suc (j + 1)) y) ≡ sets (set w j at) (j + 1) (walkFrom t d at′ (j + 1 + 1) y)
+    go : (d : ℕ) → m - (j + 1) ≡ d → sets (set w j at) (j + 1) (walkFrom t d (nextState t at (y (suc (j + 1)))) (suc (j + 1)) y) ≡ sets (set w j at)
+        (j + 1) (walkFrom t d at′ (j + 1 + 1) y)
     go zero z = refl
     go (suc d) z =
         let k : at′ ≡ nextState t at (y (j + 2)) = h (omega arith) in
@@ -130,38 +140,67 @@ pub walk-end : (t : Table) (y : ℕ → Set) (w : List ℕ) (m at : ℕ) → w �
 unfolding walkFrom
 walk-end t y w m at = let e : m - m ≡ 0 = omega arith in rw e
 
--- a walk knows nothing of starts and safe states
-abbrev pub bare : ℕ → List ℕ → Table
-bare N rows = record { size = N; starts = []; safe = []; rows = rows }
+-- ---- the walk as the code follows it: on all 256 places, with no starts and no safe states
+abbrev pub wide : List ℕ → Table
+wide rows = record { size = 256; starts = []; safe = []; rows = rows }
 
-next-bare : (t : Table) (s : ℕ) (y : Set) → nextState (bare (t .size) (t .rows)) s y ≡ nextState t s y
-unfolding nextState
-next-bare t s y = refl
+step-wide : (rows : List ℕ) (s : ℕ) (y : Set) → nextState (wide rows) s y ≡ orZero (smallest (minus 256 (row rows s) y))
+unfolding nextState leads
+step-wide rows s y = sym (ap orZero (outside-is 256 (row rows s) y (omega arith) (λ u h l. absurd (omega arith))))
 
-walk-bare : (t : Table) (m at j : ℕ) (y : ℕ → Set) → walkFrom (bare (t .size) (t .rows)) m at j y ≡ walkFrom t m at j y
+walk-256 : (t : Table) → Good t → (m at j : ℕ) (y : ℕ → Set) → at < 256 → walkFrom (wide (t .rows)) m at j y ≡ walkFrom t m at j y
 unfolding walkFrom
-walk-bare t zero at j y = refl
-walk-bare t (suc m) at j y =
-    ap (λ (l : List ℕ). at ∷ l)
-    (walk-bare t m _ (suc j) y ∙ ap (λ (a : ℕ). walkFrom t m a (suc j) y) (next-bare t at (y (suc j))))
+walk-256 t good zero at j y l = refl
+walk-256 t good (suc m) at j y l =
+    let e : nextState (wide (t .rows)) at (y (suc j)) ≡ nextState t at (y (suc j)) = step-wide (t .rows) at (y (suc j)) ∙ next-is t good at (y (suc j)) l in
+    let below : nextState (wide (t .rows)) at (y (suc j)) < 256 = rw (step-wide (t .rows) at (y (suc j))) (or-zero-below _) in
+    ap (λ (l : List ℕ). at ∷ l) (walk-256 t good m _ (suc j) y below ∙ ap (λ (a : ℕ). walkFrom t m a (suc j) y) e)
 
-pub walk-zero : (t : Table) (m at : ℕ) (w : List ℕ) (y : ℕ → Set) → sets w 0 (walkFrom t (m - 0) at (0 + 1) y) ≡ sets w 0 (walkFrom t m at 1 y)
-walk-zero t m at w y =
-    let z : m - 0 ≡ m = omega arith in
-    let o : 0 + 1 ≡ 1 = omega arith in
-    ap₂ (λ (m i : ℕ). sets w 0 (walkFrom t m at i y)) z o
+-- the loop: what is left of the walk, written on what is there, is the whole walk written
+pub record Walking (rows b w₀ : List ℕ) (m at₀ : ℕ) (w : List ℕ) (at j : ℕ) : Type 0 where
+  pub in-range : j ≤ m
+  pub rest : sets w j (walkFrom (wide rows) (m - j) at (j + 1) ((decode b) .y)) ≡ sets w₀ 0 (walkFrom (wide rows) m at₀ 1 ((decode b) .y))
+  pub long : length w ≡ 256
+  pub state : at < 256
 
-pub walk-all : (t : Table) (b : List ℕ) → Ready t b → (y : Set) → y ≡ quad b 1038 → (w : List ℕ) (at : ℕ) → at ≡ orZero (smallest (minus 256 (t .starts) y))
-    → sets w 0 (walkFrom (bare (t .size) (t .rows)) (getD b 0 0 - 1) at 1 ((decode b) .y)) ≡ sets w 0 (walk t (decode b))
-unfolding walk decode
-walk-all t b r y ey w at e =
-    ap (sets w 0) (walk-bare t (getD b 0 0 - 1) at 1 ((decode b) .y))
-    ∙ ap (λ (a : ℕ). sets w 0 (walkFrom t (getD b 0 0 - 1) a 1 ((decode b) .y)))
-    (e ∙ ap (λ (v : Set). orZero (smallest (minus 256 (t .starts) v))) (ey ∙ y-is t b r 1 1038 (omega arith) (omega (arith, r .two))) ∙ first-is t (r .good) ((decode b) .y 1))
+module _ (rows b w₀ : List ℕ) (m at₀ : ℕ) where
+  pub walk-begins : length w₀ ≡ 256 → at₀ < 256 → Walking rows b w₀ m at₀ w₀ at₀ 0
+  walk-begins long l =
+      let z : m - 0 ≡ m = omega arith in
+      let o : 0 + 1 ≡ 1 = omega arith in
+      record { in-range = omega arith; rest = ap₂ (λ (m i : ℕ). sets w₀ 0 (walkFrom (wide rows) m at₀ i ((decode b) .y))) z o; long = long; state = l }
 
-pub walk-next : (t : Table) (b : List ℕ) → Ready t b → (j at at′ : ℕ) (x y : Set) → j + 2 < getD b 0 0 → at < 256 → x ≡ quad (t .rows) (4 * at)
-    → y ≡ quad b (1034 + 4 * (j + 2)) → at′ ≡ orZero (smallest (minus 256 x y))
-    → at′ ≡ nextState (bare (t .size) (t .rows)) at ((decode b) .y (j + 2))
-walk-next t b r j at at′ x y l m ex ey e =
-    e ∙ ap₂ (λ (u v : Set). orZero (smallest (minus 256 u v))) ex (ey ∙ y-is t b r (j + 2) _ refl l)
-    ∙ next-is t (r .good) at ((decode b) .y (j + 2)) m ∙ sym (next-bare t at ((decode b) .y (j + 2)))
+  module _ (w : List ℕ) (at j : ℕ) (v : Walking rows b w₀ m at₀ w at j) (l : j < m) where
+    goes : (at′ : ℕ) → at′ < 256 → (j + 1 < m → at′ ≡ nextState (wide rows) at ((decode b) .y (j + 2))) → Walking rows b w₀ m at₀ (set w j at) at′ (j + 1)
+    goes at′ small h =
+        record {
+          in-range = omega arith;
+          rest = sym (walk-turn (wide rows) ((decode b) .y) w m j at at′ l h) ∙ v .rest;
+          long = length-set w j at ∙ v .long;
+          state = small;
+        }
+
+    -- the last state
+    pub walk-last : (at″ : ℕ) → at″ ≡ at → m ≤ j + 1 → Walking rows b w₀ m at₀ (set w j at) at″ (j + 1)
+    walk-last at″ e h = rw e (goes at (v .state) (λ k. absurd (omega arith)))
+
+    -- the next state was looked for
+    pub walk-on : (x y : Set) (at″ at′ : ℕ) → at″ ≡ at′ → getD b 1 0 ≤ 1 → m ≡ getD b 0 0 - 1 → j + 1 < m → x ≡ quad rows (4 * at)
+        → y ≡ quad b (1034 + 4 * (j + 2))
+        → Outside x y at′ → Walking rows b w₀ m at₀ (set w j at) at″ (j + 1)
+    walk-on x y at″ at′ ea k em h ex ey out =
+        let dy : y ≡ (decode b) .y (j + 2) = ey ∙ y-is b (j + 2) _ refl (omega arith) (omega arith) in
+        rw ea (goes at′ (out .small) (λ _. out .is ∙ ap₂ (λ u v. orZero (smallest (minus 256 u v))) ex dy ∙ sym (step-wide rows at ((decode b) .y (j + 2)))))
+
+  pub walk-ends : (t : Table) (y : Set) (w : List ℕ) (at j : ℕ) → Walking rows b w₀ m at₀ w at j → m ≤ j → m ≡ getD b 0 0 - 1 → Ready t b → rows ≡ t .rows
+      → getD b 1 0 ≤ 1 → y ≡ quad b 1038 → Outside (t .starts) y at₀ → w ≡ sets w₀ 0 (walk t (decode b))
+  unfolding walk
+  walk-ends t y w at j v l em r er k ey out =
+      let q : j ≡ m = omega (arith, v .in-range) in
+      let dy : y ≡ (decode b) .y 1 = ey ∙ y-is b 1 1038 (omega arith) k (omega (arith, r .spans .two)) in
+      let first : at₀ ≡ firstState t ((decode b) .y 1) = out .is ∙ ap (λ v. orZero (smallest (minus 256 (t .starts) v))) dy
+      ∙ first-is t (r .good) ((decode b) .y 1) in
+      walk-end (wide rows) ((decode b) .y) w m at ∙ (rw q at (v .rest))
+      ∙ ap (λ c. sets w₀ 0 (walkFrom (wide c) m at₀ 1 ((decode b) .y))) er
+      ∙ ap (sets w₀ 0) (walk-256 t (r .good) m at₀ 1 ((decode b) .y) (out .small))
+      ∙ ap₂ (λ m a. sets w₀ 0 (walkFrom t m a 1 ((decode b) .y))) (em ∙ ap (λ n. n - 1) (n-is b)) first

@@ -1,5 +1,5 @@
 pub mod Said
 pub mod Hints
 pub mod Promises
-pub mod Ready
 pub mod Demands
+pub mod Inner

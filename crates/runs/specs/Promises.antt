@@ -8,14 +8,15 @@ use lib.ListN.{length}
 use lib.Seq.{sets}
 use Rattle.answers.specs.Answer.{Answer, refused, given}
 use Rattle.answers.specs.Refusals as refusals
-use Rattle.answers.specs.Refusals.{noRefusal, outOfRange, wrongLength, failsEntry, notSound}
-use Rattle.sets.specs.Sets.{Set, inRange, sizeRefusal}
-use Rattle.rules.specs.Table.{Table, soundTable}
+use Rattle.answers.specs.Refusals.{noRefusal, wrongLength}
+use Rattle.sets.specs.Sets.{Set, sizeRefusal}
+use Rattle.rules.specs.Table.{Table}
 use Rattle.rules.specs.Rules.{State, Result, safe, reached, unfinished, noRoom, Rule, freshOf}
 use Rattle.rules.specs.Runs as runs
 use Rattle.rules.specs.Runs.{run, walk}
 use Rattle.rules.specs.Single.{Fired, single}
-use Rattle.rules.specs.Buffer.{encode, decode, entryCheck}
+use Rattle.rules.specs.Buffer.{encode, decode}
+use Rattle.entries.specs.Refusal.{entryRefusal}
 use Rattle.runs.specs.declared.Asked.{Asked}
 use Rattle.runs.specs.declared.RunAnswer.{RunAnswer}
 use Rattle.runs.specs.Said.{Shown, safe-with, reached-with, not-ended, said, saidOne}
@@ -30,11 +31,8 @@ pub record FreshPromise (N : ℕ) (b b′ : List ℕ) (r : ℕ) : Type 0 where
   pub buffer : b′ ≡ cond (eqb (freshRefusal N b) noRefusal) (encode (freshOf N)) b
 
 -- ---- 7, 2, 13, 8; `lengths` says whether the buffers that only a run is lent fit
-unfoldable pub runRefusal : Table → List ℕ → Bool → ℕ
-runRefusal t b lengths =
-    cond (eqb (length b) 2066 && (eqb (length (t .rows)) 1024 && lengths))
-    (cond (inRange (t .size)) (cond (soundTable t) (cond (entryCheck t b) noRefusal failsEntry) notSound) outOfRange)
-    wrongLength
+abbrev pub runRefusal : Table → List ℕ → Bool → ℕ
+runRefusal t b lengths = cond lengths (entryRefusal t b) wrongLength
 
 -- ---- a single rule
 unfoldable pub singleAnswer : ℕ → Answer Fired → Answer Rule
@@ -47,9 +45,13 @@ singleBuffer (suc n) a b = b
 singleBuffer zero (refused n) b = b
 singleBuffer zero (given f) b = encode (f .state)
 
-pub record SinglePromise (t : Table) (z : Set) (b b′ : List ℕ) (r : Asked) : Type 0 where
-  pub answer : saidOne r ≡ singleAnswer (runRefusal t b true) (single t (decode b) z)
-  pub buffer : b′ ≡ singleBuffer (runRefusal t b true) (single t (decode b) z) b
+-- an answer and a buffer, from a refusal and what the rules say
+pub record SingleAnswered (t : Table) (z : Set) (refusal : ℕ) (b b′ : List ℕ) (r : Asked) : Type 0 where
+  pub answer : saidOne r ≡ singleAnswer refusal (single t (decode b) z)
+  pub buffer : b′ ≡ singleBuffer refusal (single t (decode b) z) b
+
+abbrev pub SinglePromise : Table → Set → List ℕ → List ℕ → Asked → Type 0
+SinglePromise t z b b′ r = SingleAnswered t z (entryRefusal t b) b b′ r
 
 -- ---- a run: hints a multiple of 4, set 4, walk 256
 unfoldable pub lengthsOk : List ℕ → List ℕ → List ℕ → Bool

@@ -1,66 +1,153 @@
-// The rules over a run buffer: the conclusion, the rule due, its house choice, what it allows, firing it.
+// The rules over a run buffer: the conclusion, the rule due and its house choice, what it allows, firing it.
+//
+// A test on four words covers all 256 places, so what needs no table is promised at 256.
 use crate::Rule;
 use crate::Standing;
+use moves::Model;
 use sets::StateSet;
 ghost use mathlib.Core.Path.{_≡_};
-ghost use Prim.Native.Nat.{_+_, _<_};
+ghost use mathlib.Core.Bool.{true};
+ghost use Prim.Native.Nat.{_<_, _≤_};
 ghost use lib.ListN.{getD};
-ghost use Rattle.sets.specs.Sets.{empty, Proper};
-ghost use Rattle.rules.specs.Table.{table};
-ghost use Rattle.rules.specs.Rules.{closes, conclusion, due, allowed, house, fire, Unfold, Candidate, Decide, Conflict};
+ghost use Rattle.moves.specs.Models.{on};
+ghost use Rattle.sets.specs.Sets.{Proper};
+ghost use Rattle.rules.specs.Table.{soundRows};
+ghost use Rattle.rules.specs.Rules.{conclusionOf, separates, blocks, fire, afterUnfold, afterCandidate, afterDecide, afterConflict};
 ghost use Rattle.rules.specs.Runs.{asks, willDo};
 ghost use Rattle.rules.specs.Buffer.{encode, decode};
-ghost use Rattle.runs.specs.Ready.{Ready};
-ghost use Rattle.runs.specs.Said.{standingOf, ruleOf, asRule};
-
-// Whether x_(j+1) is within x_j.
-fn closes_at(moves: &[u64], size: u16, i: StateSet, p: StateSet, buf: &[u64], j: usize) -> bool
-    requires { ⌜ Ready (table size (i .words) (p .words) (now moves)) (now buf) × (j + 1 < getD (now buf) 0 0) ⌝ }
-    ensures { λ r. ⌜ r ≡ closes (table size (i .words) (p .words) (now (moves .entry))) (decode (now (buf .entry))) j ⌝ }
-{
-    let x = StateSet::read(buf, 2 + 4 * j);
-    let up = StateSet::read(buf, 2 + 4 * (j + 1));
-    up.within(x)
-}
+ghost use Rattle.rules.proofs.Ready.{Good, Spans, Holds, Ready};
+ghost use Rattle.runs.specs.Said.{standingOf, asRule};
+ghost use Rattle.runs.specs.Inner.{Looks, Climbs, Untouched, Parted, Closing, AtRule, Fireable};
+ghost use Rattle.runs.specs.Inner.{Same, Remembers, Recalled, Ruled};
 
 // How the run stands: safe at the smallest j that closes; reached, with a start outside y_1; or unfinished.
-pub fn conclusion(moves: &[u64], size: u16, i: StateSet, p: StateSet, buf: &[u64]) -> Standing
-    requires { ⌜ Ready (table size (i .words) (p .words) (now moves)) (now buf) ⌝ }
-    ensures { λ r. ⌜ r ≡ standingOf (conclusion (table size (i .words) (p .words) (now (moves .entry))) (decode (now (buf .entry)))) ⌝ }
+// Only a j from `from` up to `to` can close.
+pub fn conclusion(starts: StateSet, buf: &[u64], from: usize, to: usize) -> Standing
+    requires { ⌜ Looks (now buf) from to ⌝ }
+    ensures { λ r. ⌜ r ≡ standingOf (conclusionOf 256 (starts .words) (decode (now (buf .entry)))) ⌝ }
 {
-    let m = (buf[0] - 1) as usize;
-    for j in 0..m {
-        if closes_at(moves, size, i, p, buf, j) {
+    let mut x = StateSet::read(buf, 2 + 4 * from);
+    for j in from..to {
+        let up = StateSet::read(buf, 2 + 4 * (j + 1));
+        if up.within(x) {
             return Standing::Safe(j);
         }
+        x = up;
     }
     if buf[1] != 1 {
         return Standing::Unfinished;
     }
-    if i.within(StateSet::read(buf, 1038)) {
+    if starts.within(StateSet::read(buf, 1038)) {
         return Standing::Unfinished;
     }
     Standing::Reached
 }
 
-// The rule due.
-pub fn due(moves: &[u64], size: u16, i: StateSet, p: StateSet, buf: &[u64]) -> Rule
-    requires { ⌜ Ready (table size (i .words) (p .words) (now moves)) (now buf) ⌝ }
-    ensures { λ r. ⌜ r ≡ ruleOf (due (table size (i .words) (p .words) (now (moves .entry))) (decode (now (buf .entry)))) ⌝ }
+// The places from `from` up to `to`.
+pub struct Span {
+    pub from: usize,
+    pub to: usize,
+}
+
+// How many x, from x_0 up, Conflict with z leaves as they are: those below x_k, if x_(k-1) is within z.
+fn untouched(buf: &[u64], z: StateSet) -> usize
+    requires { ⌜ Spans (now buf) × Climbs (decode (now buf)) ⌝ }
+    ensures { λ r. ⌜ Untouched (decode (now (buf .entry))) (z .words) r ⌝ }
+{
+    let k = buf[1] as usize;
+    if StateSet::read(buf, 2 + 4 * (k - 1)).within(z) {
+        return k;
+    }
+    0
+}
+
+// Where the rule, fired with z, can make x_(j+1) lie within x_j.
+pub fn closing(size: u16, buf: &[u64], rule: Rule, z: StateSet) -> Span
+    requires { ⌜ Fireable size (now buf) rule × Parted size (decode (now buf)) ⌝ }
+    ensures { λ r. ⌜ Closing size (fire size (asRule rule) (decode (now (buf .entry))) (z .words)) (r .from) (r .to) ⌝ }
+{
+    let n = buf[0] as usize;
+    let k = buf[1] as usize;
+    match rule {
+        Rule::Unfold => Span { from: n - 1, to: n },
+        Rule::Candidate => Span { from: 0, to: 0 },
+        Rule::Decide => Span { from: 0, to: 0 },
+        Rule::Conflict => {
+            let m = untouched(buf, z);
+            if 0 < m {
+                Span { from: m - 1, to: k }
+            } else {
+                Span { from: 0, to: k }
+            }
+        }
+    }
+}
+
+// A rule, and its house choice.
+pub struct Ruling {
+    pub rule: Rule,
+    pub set: StateSet,
+}
+
+// Whether two sets are the same.
+fn same(a: StateSet, b: StateSet) -> bool
+    ensures { λ r. ⌜ Same (a .words) (b .words) r ⌝ }
+{
+    if a.words[0] != b.words[0] {
+        return false;
+    }
+    if a.words[1] != b.words[1] {
+        return false;
+    }
+    if a.words[2] != b.words[2] {
+        return false;
+    }
+    a.words[3] == b.words[3]
+}
+
+// g(y): from pair d of the memo, if it is kept there; else worked out, and kept there.
+fn recall(moves: &[u64], size: u16, memo: &mut [u64], d: usize, y: StateSet) -> StateSet
+    requires { ⌜ (size ≤ 256) × (soundRows size (now moves) ≡ true) × Remembers size (now moves) (now memo) × (d < 258) ⌝ }
+    ensures { λ r. ⌜ Recalled size (now (moves .entry)) (y .words) (r .words) (now (memo .exit)) ⌝ }
+{
+    let at = 8 * d;
+    if same(StateSet::read(memo, at), y) {
+        if !y.within(StateSet::EMPTY) {
+            return StateSet::read(memo, at + 4);
+        }
+    }
+    let gy = moves::backward(moves, size, y);
+    y.write(memo, at);
+    gy.write(memo, at + 4);
+    gy
+}
+
+// The rule due and its house choice: f(x_(k-1)) is within y_k exactly when x_(k-1) is within g(y_k), which is Decide's.
+pub fn due(moves: &[u64], model: Model, buf: &[u64], memo: &mut [u64]) -> Ruling
+    requires { ⌜ Ready (on model (now moves)) (now buf) × Remembers (model .size) (now moves) (now memo) ⌝ }
+    ensures { λ r. ⌜ Ruled (on model (now (moves .entry))) (now (buf .entry)) (r .rule) (r .set .words) (now (memo .exit)) ⌝ }
 {
     let n = buf[0] as usize;
     let k = buf[1] as usize;
     if k == n {
-        if StateSet::read(buf, 2 + 4 * (n - 1)).within(p) {
-            return Rule::Unfold;
+        if StateSet::read(buf, 2 + 4 * (n - 1)).within(model.safe) {
+            let rule = Rule::Unfold;
+            let set = StateSet::EMPTY;
+            return Ruling { rule, set };
         }
-        return Rule::Candidate;
+        let rule = Rule::Candidate;
+        let set = model.safe;
+        return Ruling { rule, set };
     }
     let x = StateSet::read(buf, 2 + 4 * (k - 1));
-    if moves::forward(moves, size, x).within(StateSet::read(buf, 1034 + 4 * k)) {
-        return Rule::Conflict;
+    let y = StateSet::read(buf, 1034 + 4 * k);
+    let gy = recall(moves, model.size, memo, n - 1 - k, y);
+    if x.within(gy) {
+        let rule = Rule::Conflict;
+        return Ruling { rule, set: y };
     }
-    Rule::Decide
+    let rule = Rule::Decide;
+    Ruling { rule, set: gy }
 }
 
 // Whether the rule takes a hint.
@@ -75,118 +162,59 @@ pub fn asks(rule: Rule) -> bool
     }
 }
 
-// The house choice: P, g(y_k) or y_k.
-pub fn house(
+// What Candidate and Decide ask of z: it contains the house choice, and not x.
+fn separates(low: StateSet, x: StateSet, z: StateSet) -> bool
+    ensures { λ r. ⌜ r ≡ separates 256 (low .words) (x .words) (z .words) ⌝ }
+{
+    if !low.within(z) {
+        return false;
+    }
+    !x.within(z)
+}
+
+// What Conflict asks of z: it is within the house choice y, and contains I and f(x ∩ z).
+fn blocks(moves: &[u64], model: Model, y: StateSet, x: StateSet, z: StateSet) -> bool
+    requires { ⌜ Good (on model (now moves)) × Proper (model .size) (x .words) × Proper (model .size) (z .words) ⌝ }
+    ensures { λ r. ⌜ r ≡ blocks (on model (now (moves .entry))) (y .words) (x .words) (z .words) ⌝ }
+{
+    if !z.within(y) {
+        return false;
+    }
+    if !model.starts.within(z) {
+        return false;
+    }
+    moves::forward(moves, model.size, x.meet(z)).within(z)
+}
+
+// Whether z has no members from N up and the rule due allows it; h is the house choice. At Candidate k is n.
+pub fn will_do(
     moves: &[u64],
-    size: u16,
-    i: StateSet,
-    p: StateSet,
+    model: Model,
     buf: &[u64],
     rule: Rule,
-) -> StateSet
-    requires { ⌜ Ready (table size (i .words) (p .words) (now moves)) (now buf) × (rule ≡ ruleOf (due (table size (i .words) (p .words) (now moves)) (decode (now buf)))) ⌝ }
-    ensures { λ r. ⌜ r .words ≡ house (table size (i .words) (p .words) (now (moves .entry))) (due (table size (i .words) (p .words) (now (moves .entry))) (decode (now (buf .entry)))) (decode (now (buf .entry))) ⌝ }
-{
-    let k = buf[1] as usize;
-    match rule {
-        Rule::Unfold => StateSet::EMPTY,
-        Rule::Candidate => p,
-        Rule::Decide => moves::backward(moves, size, StateSet::read(buf, 1034 + 4 * k)),
-        Rule::Conflict => StateSet::read(buf, 1034 + 4 * k),
-    }
-}
-
-// Whether Candidate allows z: P is within it, and x_(n-1) is not.
-fn allows_candidate(
-    moves: &[u64],
-    size: u16,
-    i: StateSet,
-    p: StateSet,
-    buf: &[u64],
-    z: StateSet,
-) -> bool
-    requires { ⌜ Ready (table size (i .words) (p .words) (now moves)) (now buf) ⌝ }
-    ensures { λ r. ⌜ r ≡ allowed (table size (i .words) (p .words) (now (moves .entry))) Candidate (decode (now (buf .entry))) (z .words) ⌝ }
-{
-    if !p.within(z) {
-        return false;
-    }
-    let n = buf[0] as usize;
-    !StateSet::read(buf, 2 + 4 * (n - 1)).within(z)
-}
-
-// Whether Decide allows z: the house choice g(y_k) is within it, and x_(k-1) is not.
-fn allows_decide(
-    moves: &[u64],
-    size: u16,
-    i: StateSet,
-    p: StateSet,
-    buf: &[u64],
     h: StateSet,
     z: StateSet,
 ) -> bool
-    requires { ⌜ Ready (table size (i .words) (p .words) (now moves)) (now buf) × (h .words ≡ house (table size (i .words) (p .words) (now moves)) Decide (decode (now buf))) ⌝ }
-    ensures { λ r. ⌜ r ≡ allowed (table size (i .words) (p .words) (now (moves .entry))) Decide (decode (now (buf .entry))) (z .words) ⌝ }
+    requires { ⌜ AtRule (on model (now moves)) (now buf) rule (h .words) ⌝ }
+    ensures { λ r. ⌜ r ≡ willDo (on model (now (moves .entry))) (decode (now (buf .entry))) (z .words) ⌝ }
 {
-    if !h.within(z) {
-        return false;
-    }
-    let k = buf[1] as usize;
-    !StateSet::read(buf, 2 + 4 * (k - 1)).within(z)
-}
-
-// Whether Conflict allows z: it is within the house choice y_k, and I and f(x_(k-1) ∩ z) are within it.
-fn allows_conflict(
-    moves: &[u64],
-    size: u16,
-    i: StateSet,
-    p: StateSet,
-    buf: &[u64],
-    h: StateSet,
-    z: StateSet,
-) -> bool
-    requires { ⌜ Ready (table size (i .words) (p .words) (now moves)) (now buf) × Proper size (z .words) × (h .words ≡ house (table size (i .words) (p .words) (now moves)) Conflict (decode (now buf))) ⌝ }
-    ensures { λ r. ⌜ r ≡ allowed (table size (i .words) (p .words) (now (moves .entry))) Conflict (decode (now (buf .entry))) (z .words) ⌝ }
-{
-    if !z.within(h) {
-        return false;
-    }
-    if !i.within(z) {
+    if !z.sound(model.size) {
         return false;
     }
     let k = buf[1] as usize;
     let x = StateSet::read(buf, 2 + 4 * (k - 1));
-    moves::forward(moves, size, x.meet(z)).within(z)
-}
-
-// Whether z has no members from N up and the rule due allows it; h is the house choice.
-pub fn will_do(
-    moves: &[u64],
-    size: u16,
-    i: StateSet,
-    p: StateSet,
-    buf: &[u64],
-    rule: Rule,
-    h: StateSet,
-    z: StateSet,
-) -> bool
-    requires { ⌜ Ready (table size (i .words) (p .words) (now moves)) (now buf) × (rule ≡ ruleOf (due (table size (i .words) (p .words) (now moves)) (decode (now buf)))) × (h .words ≡ house (table size (i .words) (p .words) (now moves)) (due (table size (i .words) (p .words) (now moves)) (decode (now buf))) (decode (now buf))) ⌝ }
-    ensures { λ r. ⌜ r ≡ willDo (table size (i .words) (p .words) (now (moves .entry))) (decode (now (buf .entry))) (z .words) ⌝ }
-{
-    if !z.sound(size) {
-        return false;
-    }
     match rule {
         Rule::Unfold => true,
-        Rule::Candidate => allows_candidate(moves, size, i, p, buf, z),
-        Rule::Decide => allows_decide(moves, size, i, p, buf, h, z),
-        Rule::Conflict => allows_conflict(moves, size, i, p, buf, h, z),
+        Rule::Candidate => separates(h, x, z),
+        Rule::Decide => separates(h, x, z),
+        Rule::Conflict => blocks(moves, model, h, x, z),
     }
 }
 
-fn fire_unfold(moves: &[u64], size: u16, i: StateSet, p: StateSet, buf: &mut [u64])
-    requires { ⌜ Ready (table size (i .words) (p .words) (now moves)) (now buf) × (getD (now buf) 0 0 < 258) ⌝ }
-    ensures { λ r. ⌜ now (buf .exit) ≡ encode (fire (table size (i .words) (p .words) (now (moves .entry))) Unfold (decode (now (buf .entry))) empty) ⌝ }
+// x_n becomes the full set, n and k become n + 1.
+fn fire_unfold(size: u16, buf: &mut [u64])
+    requires { ⌜ Holds (now buf) × (getD (now buf) 0 0 < 258) × (size ≤ 256) ⌝ }
+    ensures { λ r. ⌜ now (buf .exit) ≡ encode (afterUnfold size (decode (now (buf .entry)))) ⌝ }
 {
     let n = buf[0];
     let r = StateSet::full(size);
@@ -196,32 +224,35 @@ fn fire_unfold(moves: &[u64], size: u16, i: StateSet, p: StateSet, buf: &mut [u6
     buf[1] = n + 1;
 }
 
-fn fire_candidate(moves: &[u64], size: u16, i: StateSet, p: StateSet, buf: &mut [u64], z: StateSet)
-    requires { ⌜ Ready (table size (i .words) (p .words) (now moves)) (now buf) ⌝ }
-    ensures { λ r. ⌜ now (buf .exit) ≡ encode (fire (table size (i .words) (p .words) (now (moves .entry))) Candidate (decode (now (buf .entry))) (z .words)) ⌝ }
+// y_(n-1) becomes z.
+fn fire_candidate(buf: &mut [u64], z: StateSet)
+    requires { ⌜ Holds (now buf) ⌝ }
+    ensures { λ r. ⌜ now (buf .exit) ≡ encode (afterCandidate (decode (now (buf .entry))) (z .words)) ⌝ }
 {
     let n = buf[0];
     z.write(buf, 1034 + 4 * ((n - 1) as usize));
     buf[1] = n - 1;
 }
 
-fn fire_decide(moves: &[u64], size: u16, i: StateSet, p: StateSet, buf: &mut [u64], z: StateSet)
-    requires { ⌜ Ready (table size (i .words) (p .words) (now moves)) (now buf) ⌝ }
-    ensures { λ r. ⌜ now (buf .exit) ≡ encode (fire (table size (i .words) (p .words) (now (moves .entry))) Decide (decode (now (buf .entry))) (z .words)) ⌝ }
+// y_(k-1) becomes z.
+fn fire_decide(buf: &mut [u64], z: StateSet)
+    requires { ⌜ Holds (now buf) ⌝ }
+    ensures { λ r. ⌜ now (buf .exit) ≡ encode (afterDecide (decode (now (buf .entry))) (z .words)) ⌝ }
 {
     let k = buf[1];
     z.write(buf, 1034 + 4 * ((k - 1) as usize));
     buf[1] = k - 1;
 }
 
-// Every x_j with j up to k met with z; y_k dropped.
-fn fire_conflict(moves: &[u64], size: u16, i: StateSet, p: StateSet, buf: &mut [u64], z: StateSet)
-    requires { ⌜ Ready (table size (i .words) (p .words) (now moves)) (now buf) × (getD (now buf) 1 0 < getD (now buf) 0 0) ⌝ }
-    ensures { λ r. ⌜ now (buf .exit) ≡ encode (fire (table size (i .words) (p .words) (now (moves .entry))) Conflict (decode (now (buf .entry))) (z .words)) ⌝ }
+// Every x_j with j up to k is met with z, but for those that are within z already; y_k is dropped.
+fn fire_conflict(buf: &mut [u64], z: StateSet)
+    requires { ⌜ Holds (now buf) × (getD (now buf) 1 0 < getD (now buf) 0 0) × Climbs (decode (now buf)) ⌝ }
+    ensures { λ r. ⌜ now (buf .exit) ≡ encode (afterConflict 256 (decode (now (buf .entry))) (z .words)) ⌝ }
 {
     let k = buf[1];
     let m = (k as usize) + 1;
-    for j in 0..m {
+    let low = untouched(buf, z);
+    for j in low..m {
         let x = StateSet::read(buf, 2 + 4 * j);
         x.meet(z).write(buf, 2 + 4 * j);
     }
@@ -229,23 +260,15 @@ fn fire_conflict(moves: &[u64], size: u16, i: StateSet, p: StateSet, buf: &mut [
     buf[1] = k + 1;
 }
 
-// The rule due, fired with z.
-pub fn fire(
-    moves: &[u64],
-    size: u16,
-    i: StateSet,
-    p: StateSet,
-    buf: &mut [u64],
-    rule: Rule,
-    z: StateSet,
-)
-    requires { ⌜ Ready (table size (i .words) (p .words) (now moves)) (now buf) × (rule ≡ ruleOf (due (table size (i .words) (p .words) (now moves)) (decode (now buf)))) × (getD (now buf) 0 0 < 258) ⌝ }
-    ensures { λ r. ⌜ now (buf .exit) ≡ encode (fire (table size (i .words) (p .words) (now (moves .entry))) (due (table size (i .words) (p .words) (now (moves .entry))) (decode (now (buf .entry)))) (decode (now (buf .entry))) (z .words)) ⌝ }
+// The rule, fired with z.
+pub fn fire(size: u16, buf: &mut [u64], rule: Rule, z: StateSet)
+    requires { ⌜ Fireable size (now buf) rule ⌝ }
+    ensures { λ r. ⌜ now (buf .exit) ≡ encode (fire size (asRule rule) (decode (now (buf .entry))) (z .words)) ⌝ }
 {
     match rule {
-        Rule::Unfold => fire_unfold(moves, size, i, p, buf),
-        Rule::Candidate => fire_candidate(moves, size, i, p, buf, z),
-        Rule::Decide => fire_decide(moves, size, i, p, buf, z),
-        Rule::Conflict => fire_conflict(moves, size, i, p, buf, z),
+        Rule::Unfold => fire_unfold(size, buf),
+        Rule::Candidate => fire_candidate(buf, z),
+        Rule::Decide => fire_decide(buf, z),
+        Rule::Conflict => fire_conflict(buf, z),
     }
 }

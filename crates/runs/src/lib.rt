@@ -1,24 +1,19 @@
 // The run buffer, 2,066 words lent by the caller: a fresh run, a single rule, and a run of rules.
 //
 // Each call tests all that it is lent before it writes anything, and a refused call leaves every
-// buffer as it was. Parameters come in one order: the move table, N, I, P, the run buffer, hints,
+// buffer as it was. Parameters come in one order: the move table, the model, the run buffer, hints,
 // budget, the set, the walk.
+use moves::Model;
 use sets::StateSet;
 ghost use mathlib.Core.Path.{_≡_};
-ghost use mathlib.Core.Bool.{true};
 ghost use lib.ListN.{length};
-ghost use Prim.Native.Nat.{_-_};
-ghost use Rattle.rules.specs.Table.{table};
-ghost use Rattle.rules.specs.Rules.{conclusion, due};
-ghost use Rattle.rules.specs.Runs.{run};
+ghost use Rattle.moves.specs.Models.{on};
 ghost use Rattle.rules.specs.Single.{takes};
 ghost use Rattle.rules.specs.Buffer.{encode, decode};
-ghost use Rattle.rules.proofs.Held.{Fit};
-ghost use Rattle.runs.specs.Ready.{Ready, Checked, Finished, nothing};
-ghost use Rattle.runs.specs.Said.{standingOf, ruleOf};
-ghost use Rattle.runs.specs.Promises.{lengthsOk, FreshPromise, SinglePromise, RunPromise};
+ghost use Rattle.rules.proofs.Ready.{Ready};
+ghost use Rattle.runs.specs.Inner.{AtRule, Ending, Finished, Gone, nothing, refusedAnswer};
+ghost use Rattle.runs.specs.Promises.{lengthsOk, FreshPromise, SingleAnswered, SinglePromise, RunPromise};
 
-mod entry;
 mod firing;
 mod search;
 mod walk;
@@ -92,97 +87,64 @@ fn clear(buf: &mut [u64])
     }
 }
 
-// The refusals that a run and a single rule share, 7, 2, 13, 8, or 0; `lengths` says whether the other lent buffers fit.
-fn refusal(moves: &[u64], size: u16, i: StateSet, p: StateSet, buf: &[u64], lengths: bool) -> u8
-    ensures { λ r. ⌜ Checked (table size (i .words) (p .words) (now (moves .entry))) (now (buf .entry)) lengths r ⌝ }
+// Whether the proposal will do; Unfold ignores it. h is the house choice.
+fn takes(moves: &[u64], model: Model, buf: &[u64], rule: Rule, h: StateSet, z: StateSet) -> bool
+    requires { ⌜ AtRule (on model (now moves)) (now buf) rule (h .words) ⌝ }
+    ensures { λ r. ⌜ r ≡ takes (on model (now (moves .entry))) (decode (now (buf .entry))) (z .words) ⌝ }
 {
-    if buf.len() != 2066 {
-        return answers::WRONG_LENGTH;
-    }
-    if moves.len() != 1024 {
-        return answers::WRONG_LENGTH;
-    }
-    if !lengths {
-        return answers::WRONG_LENGTH;
-    }
-    if size < 1 {
-        return answers::OUT_OF_RANGE;
-    }
-    if 256 < size {
-        return answers::OUT_OF_RANGE;
-    }
-    if !moves::sound_table(moves, size, i, p) {
-        return answers::NOT_SOUND;
-    }
-    if !entry::check(moves, size, i, p, buf) {
-        return answers::FAILS_ENTRY;
-    }
-    answers::NO_REFUSAL
-}
-
-// Whether the proposal will do; Unfold ignores it.
-fn takes(
-    moves: &[u64],
-    size: u16,
-    i: StateSet,
-    p: StateSet,
-    buf: &[u64],
-    due_now: Rule,
-    z: StateSet,
-) -> bool
-    requires { ⌜ Ready (table size (i .words) (p .words) (now moves)) (now buf) × («due_now» ≡ ruleOf (due (table size (i .words) (p .words) (now moves)) (decode (now buf)))) ⌝ }
-    ensures { λ r. ⌜ r ≡ takes (table size (i .words) (p .words) (now (moves .entry))) (decode (now (buf .entry))) (z .words) ⌝ }
-{
-    if !firing::asks(due_now) {
+    if !firing::asks(rule) {
         return true;
     }
-    let h = firing::house(moves, size, i, p, buf, due_now);
-    firing::will_do(moves, size, i, p, buf, due_now, h, z)
+    firing::will_do(moves, model, buf, rule, h, z)
 }
 
-// One rule, with a proposed set.
-pub fn single(
-    moves: &[u64],
-    size: u16,
-    i: StateSet,
-    p: StateSet,
-    buf: &mut [u64],
-    z: StateSet,
-) -> Asked
-    ensures { λ r. ⌜ SinglePromise (table size (i .words) (p .words) (now (moves .entry))) (z .words) (now (buf .entry)) (now (buf .exit)) r ⌝ }
+// One rule, with a proposed set, of a buffer that passes the entry check.
+fn ask(moves: &[u64], model: Model, buf: &mut [u64], z: StateSet) -> Asked
+    requires { ⌜ Ready (on model (now moves)) (now buf) ⌝ }
+    ensures { λ r. ⌜ SingleAnswered (on model (now (moves .entry))) (z .words) 0 (now (buf .entry)) (now (buf .exit)) r ⌝ }
 {
-    let no = refusal(moves, size, i, p, buf, true);
-    if no != answers::NO_REFUSAL {
-        return Asked::Refused(no);
-    }
-    let standing = firing::conclusion(moves, size, i, p, buf);
+    let last = (buf[0] - 1) as usize;
+    let standing = firing::conclusion(model.starts, buf, 0, last);
     if !search::is_open(standing) {
         return Asked::Refused(answers::ALREADY_CONCLUDED);
     }
-    let due_now = firing::due(moves, size, i, p, buf);
-    if search::lacks_room(moves, size, i, p, buf, due_now) {
+    let mut memo = [0u64; 2064];
+    let d = firing::due(moves, model, buf, &mut memo);
+    let rule = d.rule;
+    let h = d.set;
+    if search::lacks_room(rule, buf[0]) {
         return Asked::Refused(answers::NO_ROOM);
     }
-    if !takes(moves, size, i, p, buf, due_now, z) {
+    if !takes(moves, model, buf, rule, h, z) {
         return Asked::Refused(answers::NOT_ALLOWED);
     }
-    firing::fire(moves, size, i, p, buf, due_now, z);
-    Asked::Fired(due_now)
+    firing::fire(model.size, buf, rule, z);
+    Asked::Fired(rule)
+}
+
+// One rule, with a proposed set.
+pub fn single(moves: &[u64], model: Model, buf: &mut [u64], z: StateSet) -> Asked
+    ensures { λ r. ⌜ SinglePromise (on model (now (moves .entry))) (z .words) (now (buf .entry)) (now (buf .exit)) r ⌝ }
+{
+    let no = entries::refusal(moves, model, buf);
+    if no != answers::NO_REFUSAL {
+        return Asked::Refused(no);
+    }
+    ask(moves, model, buf, z)
 }
 
 // The reason of a run into its buffer, and the answer.
 fn finish(
     moves: &[u64],
-    size: u16,
-    i: StateSet,
-    p: StateSet,
+    model: Model,
     buf: &[u64],
     r: search::Ran,
     set: &mut [u64],
     walk: &mut [u16],
 ) -> RunAnswer
-    requires { ⌜ Ready (table size (i .words) (p .words) (now moves)) (now buf) × Fit (table size (i .words) (p .words) (now moves)) (now buf) × (length (now set) ≡ 4) × (length (now walk) ≡ 256) × (r .standing ≡ standingOf (conclusion (table size (i .words) (p .words) (now moves)) (decode (now buf)))) ⌝ }
-    ensures { λ a. ⌜ Finished (table size (i .words) (p .words) (now (moves .entry))) (now (buf .entry)) (r .rules) (r .taken) (r .used) a (now (set .entry)) (now (set .exit)) (now (walk .entry)) (now (walk .exit)) ⌝ }
+    requires { ⌜ Ending (on model (now moves)) (now buf) (r .standing) (now set) (now walk) ⌝ }
+    ensures { λ a. ⌜ Finished (on model (now (moves .entry))) (now (buf .entry)) r a
+        (now (set .entry)) (now (set .exit)) (now (walk .entry)) (now (walk .exit)) ⌝ }
 {
     let standing = r.standing;
     let outcome = match standing {
@@ -191,7 +153,7 @@ fn finish(
             Outcome::Safe(j)
         }
         Standing::Reached => {
-            walk::write(moves, size, i, p, buf, walk);
+            walk::write(moves, model, buf, walk);
             Outcome::Reached((buf[0] - 1) as usize)
         }
         Standing::Unfinished => Outcome::Unfinished,
@@ -218,30 +180,56 @@ fn lengths(hints: &[u64], set: &[u64], walk: &[u16]) -> bool
     walk.len() == 256
 }
 
-// A run of at most budget rules.
-pub fn run(
+// A run of at most budget rules, of a buffer that passes the entry check.
+fn go(
     moves: &[u64],
-    size: u16,
-    i: StateSet,
-    p: StateSet,
+    model: Model,
     buf: &mut [u64],
     hints: &[u64],
     budget: u64,
     set: &mut [u64],
     walk: &mut [u16],
 ) -> RunAnswer
-    ensures { λ a. ⌜ RunPromise (table size (i .words) (p .words) (now (moves .entry))) (now (hints .entry)) budget (now (buf .entry)) (now (buf .exit)) (now (set .entry)) (now (set .exit)) (now (walk .entry)) (now (walk .exit)) a ⌝ }
+    requires { ⌜ Ready (on model (now moves)) (now buf) × (length (now set) ≡ 4) × (length (now walk) ≡ 256) ⌝ }
+    ensures { λ a. ⌜ Gone (on model (now (moves .entry))) (now (hints .entry)) budget
+        (now (buf .entry)) (now (buf .exit)) (now (set .entry)) (now (set .exit)) (now (walk .entry)) (now (walk .exit)) a ⌝ }
 {
-    let no = refusal(moves, size, i, p, buf, lengths(hints, set, walk));
-    if no != answers::NO_REFUSAL {
-        let outcome = Outcome::Refused(no);
-        return RunAnswer {
-            outcome,
-            rules: 0,
-            taken: 0,
-            used: 0,
-        };
+    let r = search::advance(moves, model, buf, hints, budget);
+    finish(moves, model, buf, r, set, walk)
+}
+
+// A run of at most budget rules.
+pub fn run(
+    moves: &[u64],
+    model: Model,
+    buf: &mut [u64],
+    hints: &[u64],
+    budget: u64,
+    set: &mut [u64],
+    walk: &mut [u16],
+) -> RunAnswer
+    ensures { λ a. ⌜ RunPromise (on model (now (moves .entry))) (now (hints .entry)) budget
+        (now (buf .entry)) (now (buf .exit)) (now (set .entry)) (now (set .exit)) (now (walk .entry)) (now (walk .exit)) a ⌝ }
+{
+    if !lengths(hints, set, walk) {
+        return refused(answers::WRONG_LENGTH);
     }
-    let r = search::advance(moves, size, i, p, buf, hints, budget);
-    finish(moves, size, i, p, buf, r, set, walk)
+    let no = entries::refusal(moves, model, buf);
+    if no != answers::NO_REFUSAL {
+        return refused(no);
+    }
+    go(moves, model, buf, hints, budget, set, walk)
+}
+
+// The answer of a run that is refused.
+fn refused(number: u8) -> RunAnswer
+    ensures { λ a. ⌜ a ≡ refusedAnswer number ⌝ }
+{
+    let outcome = Outcome::Refused(number);
+    RunAnswer {
+        outcome,
+        rules: 0,
+        taken: 0,
+        used: 0,
+    }
 }

@@ -2,18 +2,16 @@
 use crate::Rule;
 use crate::Standing;
 use crate::firing;
+use moves::Model;
 use sets::StateSet;
 ghost use mathlib.Core.Path.{_≡_};
-ghost use Prim.Native.Nat.{_+_, _<_};
-ghost use lib.ListN.{length, getD};
-ghost use Rattle.rules.specs.Table.{table};
-ghost use Rattle.rules.specs.Rules.{due};
-ghost use Rattle.rules.specs.Runs.{choose, run, lacksRoom};
+ghost use Rattle.moves.specs.Models.{on};
+ghost use Rattle.rules.specs.Runs.{lacksRoomFor};
 ghost use Rattle.rules.specs.Buffer.{decode};
-ghost use Rattle.runs.specs.Hints.{hintsAt, chosen};
-ghost use Rattle.rules.proofs.Held.{Fit};
-ghost use Rattle.runs.specs.Ready.{Good, Ready, Stepped, Ended};
-ghost use Rattle.runs.specs.Said.{ruleOf, isOpen};
+ghost use Rattle.rules.proofs.Invariant.{Open};
+ghost use Rattle.rules.proofs.Ready.{Ready};
+ghost use Rattle.runs.specs.Inner.{AtRule, Chose, Stepped, Advanced};
+ghost use Rattle.runs.specs.Said.{asRule, isOpen};
 
 // A set, and how many hints were taken and used for it.
 pub struct Choice {
@@ -22,10 +20,11 @@ pub struct Choice {
     pub used: u64,
 }
 
-// The hints that a rule took and used.
+// The hints that a rule took and used, and where it can have closed the chain.
 pub struct Took {
     pub taken: u64,
     pub used: u64,
+    pub span: firing::Span,
 }
 
 // How a run stands after so many rules and hints.
@@ -36,37 +35,35 @@ pub struct Ran {
     pub used: u64,
 }
 
-// The set that the rule is fired with, from hint number `at` on.
+// The set that the rule is fired with, from hint number `at` on; h is the house choice.
 fn choose(
     moves: &[u64],
-    size: u16,
-    i: StateSet,
-    p: StateSet,
+    model: Model,
     buf: &[u64],
     rule: Rule,
+    h: StateSet,
     hints: &[u64],
     at: u64,
 ) -> Choice
-    requires { ⌜ Ready (table size (i .words) (p .words) (now moves)) (now buf) × (rule ≡ ruleOf (due (table size (i .words) (p .words) (now moves)) (decode (now buf)))) ⌝ }
-    ensures { λ r. ⌜ choose (table size (i .words) (p .words) (now (moves .entry))) (hintsAt (now (hints .entry)) at) (decode (now (buf .entry))) ≡ chosen (r .set .words) (hintsAt (now (hints .entry)) (at + r .taken)) (r .taken) (r .used) ⌝ }
+    requires { ⌜ AtRule (on model (now moves)) (now buf) rule (h .words) ⌝ }
+    ensures { λ r. ⌜ Chose (on model (now (moves .entry))) (now (hints .entry)) at (now (buf .entry)) (r .set .words) (r .taken) (r .used) ⌝ }
 {
-    let set = firing::house(moves, size, i, p, buf, rule);
     if !firing::asks(rule) {
         return Choice {
-            set,
+            set: h,
             taken: 0,
             used: 0,
         };
     }
     if (hints.len() / 4) as u64 <= at {
         return Choice {
-            set,
+            set: h,
             taken: 0,
             used: 0,
         };
     }
     let z = StateSet::read(hints, 4 * (at as usize));
-    if firing::will_do(moves, size, i, p, buf, rule, set, z) {
+    if firing::will_do(moves, model, buf, rule, h, z) {
         return Choice {
             set: z,
             taken: 1,
@@ -74,7 +71,7 @@ fn choose(
         };
     }
     Choice {
-        set,
+        set: h,
         taken: 1,
         used: 0,
     }
@@ -83,23 +80,25 @@ fn choose(
 // The rule due, fired with the hints from number `at` on.
 fn step(
     moves: &[u64],
-    size: u16,
-    i: StateSet,
-    p: StateSet,
+    model: Model,
     buf: &mut [u64],
     rule: Rule,
+    h: StateSet,
     hints: &[u64],
     at: u64,
 ) -> Took
-    requires { ⌜ Ready (table size (i .words) (p .words) (now moves)) (now buf) × (rule ≡ ruleOf (due (table size (i .words) (p .words) (now moves)) (decode (now buf)))) × (getD (now buf) 0 0 < 258) ⌝ }
-    ensures { λ r. ⌜ Stepped (table size (i .words) (p .words) (now (moves .entry))) (now (hints .entry)) at (now (buf .entry)) (now (buf .exit)) (r .taken) (r .used) ⌝ }
+    requires { ⌜ AtRule (on model (now moves)) (now buf) rule (h .words) × Open (on model (now moves)) (decode (now buf)) ⌝ }
+    ensures { λ r. ⌜ Stepped (on model (now (moves .entry))) (now (hints .entry)) at (now (buf .entry)) (now (buf .exit))
+        (r .taken) (r .used) (r .span .from) (r .span .to) ⌝ }
 {
-    let c = choose(moves, size, i, p, buf, rule, hints, at);
+    let c = choose(moves, model, buf, rule, h, hints, at);
     let z = c.set;
-    firing::fire(moves, size, i, p, buf, rule, z);
+    let span = firing::closing(model.size, buf, rule, z);
+    firing::fire(model.size, buf, rule, z);
     Took {
         taken: c.taken,
         used: c.used,
+        span,
     }
 }
 
@@ -115,42 +114,29 @@ pub fn is_open(v: Standing) -> bool
     }
 }
 
-// Whether Unfold is due and n is 258.
-pub fn lacks_room(
-    moves: &[u64],
-    size: u16,
-    i: StateSet,
-    p: StateSet,
-    buf: &[u64],
-    rule: Rule,
-) -> bool
-    requires { ⌜ Ready (table size (i .words) (p .words) (now moves)) (now buf) × (rule ≡ ruleOf (due (table size (i .words) (p .words) (now moves)) (decode (now buf)))) ⌝ }
-    ensures { λ r. ⌜ r ≡ lacksRoom (table size (i .words) (p .words) (now (moves .entry))) (decode (now (buf .entry))) ⌝ }
+// Whether the rule is Unfold and n is 258.
+pub fn lacks_room(rule: Rule, n: u64) -> bool
+    ensures { λ r. ⌜ r ≡ lacksRoomFor (asRule rule) n ⌝ }
 {
     if firing::asks(rule) {
         return false;
     }
-    buf[0] == 258
+    n == 258
 }
 
 // At most budget rules.
-pub fn advance(
-    moves: &[u64],
-    size: u16,
-    i: StateSet,
-    p: StateSet,
-    buf: &mut [u64],
-    hints: &[u64],
-    budget: u64,
-) -> Ran
-    requires { ⌜ (length (now moves) ≡ 1024) × (length (now buf) ≡ 2066) × Good (table size (i .words) (p .words) (now moves)) × Fit (table size (i .words) (p .words) (now moves)) (now buf) ⌝ }
-    ensures { λ r. ⌜ Ended (run (table size (i .words) (p .words) (now (moves .entry))) budget (hintsAt (now (hints .entry)) 0) (decode (now (buf .entry)))) (now (buf .exit)) (r .standing) (r .rules) (r .taken) (r .used) ⌝ }
+pub fn advance(moves: &[u64], model: Model, buf: &mut [u64], hints: &[u64], budget: u64) -> Ran
+    requires { ⌜ Ready (on model (now moves)) (now buf) ⌝ }
+    ensures { λ r. ⌜ Advanced (on model (now (moves .entry))) (now (hints .entry)) budget (now (buf .entry)) (now (buf .exit)) r ⌝ }
 {
+    let mut memo = [0u64; 2064];
     let mut fired: u64 = 0;
     let mut taken: u64 = 0;
     let mut used: u64 = 0;
+    let mut from: usize = 0;
+    let mut to = (buf[0] - 1) as usize;
     loop {
-        let standing = firing::conclusion(moves, size, i, p, buf);
+        let standing = firing::conclusion(model.starts, buf, from, to);
         if fired == budget {
             return Ran {
                 standing,
@@ -167,8 +153,10 @@ pub fn advance(
                 used,
             };
         }
-        let due_now = firing::due(moves, size, i, p, buf);
-        if lacks_room(moves, size, i, p, buf, due_now) {
+        let d = firing::due(moves, model, buf, &mut memo);
+        let rule = d.rule;
+        let h = d.set;
+        if lacks_room(rule, buf[0]) {
             let none = Standing::NoRoom;
             return Ran {
                 standing: none,
@@ -177,9 +165,11 @@ pub fn advance(
                 used: 0,
             };
         }
-        let s = step(moves, size, i, p, buf, due_now, hints, taken);
+        let s = step(moves, model, buf, rule, h, hints, taken);
         fired += 1;
         taken += s.taken;
         used += s.used;
+        from = s.span.from;
+        to = s.span.to;
     }
 }

@@ -1,6 +1,6 @@
 -- What code does word by word, in the vocabulary of the definitions.
 use Prim.Native.Nat.{ℕ, zero, suc, _+_, _-_, _*_, _/_, _%_, _^_, _≤_, _<_, min}
-use native.Mathlib.Nat.{one-mul}
+use native.Mathlib.Nat.{one-mul, add-zero}
 use native.Mathlib.Numerals.{add-one}
 use native.Mathlib.Omega.{arith}
 use mathlib.Core.Path.{_≡_, refl, sym, ap, ap₂, _∙_}
@@ -9,20 +9,20 @@ use mathlib.Core.Bool.{Bool, true, false, not, _&&_, _||_, or-false}
 use mathlib.Core.List.{List, [], _∷_}
 use mathlib.Core.Option.{some, none}
 use borrow.Author.Tests.{eq-eqb, ne-eqb, eqb-true}
-use lib.Bits.{bitAnd, bitOr, and-lt, or-lt, and-mask}
+use lib.Bits.{bitAnd, bitOr, and-lt, or-lt, and-mask, and-le-r, or-add-and, or-comm}
 use lib.Count.{ones, trailingZeros}
 use lib.Dec.{eqb, lit<}
-use lib.ListN.{getD, length, set, length-set, drop, take}
+use lib.ListN.{getD, length, set, length-set, drop, take, drop-of-length-le}
 use lib.Pow.{shl-exact, pow-lt}
 use lib.Seq.{ext-getD, sets, sets-eq, take-at, set-out, drop-cons, getD-set-same, getD-set-other}
 use mir.Syntax.{w64}
 use mir.Val.{Fits}
 use Rattle.sets.specs.Search.{sum}
-use Rattle.sets.specs.Sets.{Set, Proper, digit, bit, member, wordOf, setOf, full, within, meet, join, minus, with, count, smallest, quad}
-use Rattle.sets.proofs.Bits.{bit-and, bit-or, bit-not, bit-shift, bit-power, eqb-odd, pack-true, ones-sum, First, trailing-first}
-use Rattle.sets.proofs.Members.{proper-four, proper-of, proper-ext, proper-length, proper-word, member-of, member-word, set-ext}
+use Rattle.sets.specs.Sets.{Set, Proper, empty, digit, bit, member, wordOf, setOf, full, within, meet, join, minus, with, count, smallest, quad}
+use Rattle.sets.proofs.Bits.{bit-and, bit-or, bit-zero, bit-not, bit-shift, bit-power, eqb-odd, pack-true, ones-sum, First, trailing-first}
+use Rattle.sets.proofs.Members.{proper-four, proper-of, proper-ext, proper-empty, proper-length, proper-word, member-of, member-empty, member-minus, member-word, set-ext}
 use Rattle.sets.proofs.Search.{here, nowhere, least-of, sum-add, sum-ext}
-use Rattle.sets.proofs.Tests.{Says, pass, fail, and-true, which, eqb-says, lt-or-ge, same-or}
+use Rattle.sets.proofs.Tests.{Says, pass, fail, and-true, clash, which, eqb-says, lt-or-ge, same-or}
 use Rattle.sets.proofs.Within.{Within, Beyond, within-says, not-both}
 
 -- ---- four words
@@ -84,60 +84,59 @@ unfolding minus
 minus-words = zip-set butNot (λ a b. a && not b) (λ a b l m. and-lt 64 a (2 ^ 64 - 1 - b) l (omega arith))
     (λ a b i l m. bit-and a (2 ^ 64 - 1 - b) i ∙ ap (λ c. bit a i && c) (bit-not 64 b i l m))
 
--- ---- within, as four tests give it
-abbrev pub wordIn : Set → Set → ℕ → Bool
-wordIn x y j = eqb (bitAnd (getD x j 0) (getD y j 0)) (getD x j 0)
+-- ---- within: nothing is left of x without y
+or-le : (a b : ℕ) → a ≤ bitOr a b
+or-le a b = omega (arith, or-add-and a b, and-le-r a b)
 
-unfoldable pub wordsIn : Set → Set → Bool
-wordsIn x y = wordIn x y 0 && (wordIn x y 1 && (wordIn x y 2 && wordIn x y 3))
+-- the words of a set, joined into one
+abbrev pub allWords : Set → ℕ
+allWords z = bitOr (bitOr (bitOr (getD z 0 0) (getD z 1 0)) (getD z 2 0)) (getD z 3 0)
 
-each-word : (x y : Set) → wordsIn x y ≡ true → (j : ℕ) → j < 4 → wordIn x y j ≡ true
-unfolding wordsIn
-each-word x y e = pick
+all-zero : (a b c d : ℕ) → bitOr (bitOr (bitOr a b) c) d ≡ 0 → (a ≡ 0) × (b ≡ 0) × (c ≡ 0) × (d ≡ 0)
+all-zero a b c d e =
+    let p : bitOr (bitOr a b) c ≤ bitOr (bitOr (bitOr a b) c) d = or-le _ d in
+    let q : bitOr a b ≤ bitOr (bitOr a b) c = or-le _ c in
+    let r : a ≤ bitOr a b = or-le a b in
+    let p′ : d ≤ bitOr (bitOr (bitOr a b) c) d = rw (or-comm (bitOr (bitOr a b) c) d) (or-le d _) in
+    let q′ : c ≤ bitOr (bitOr a b) c = rw (or-comm (bitOr a b) c) (or-le c _) in
+    let r′ : b ≤ bitOr a b = rw (or-comm a b) (or-le b a) in
+    (omega arith, omega arith, omega arith, omega arith)
+
+no-words : (z : Set) → allWords z ≡ 0 → (j : ℕ) → j < 4 → getD z j 0 ≡ 0
+no-words z e = pick (all-zero _ _ _ _ e)
   where
-    h0 : (wordIn x y 0 ≡ true) × ((wordIn x y 1 && (wordIn x y 2 && wordIn x y 3)) ≡ true)
-    h0 = and-true (wordIn x y 0) (wordIn x y 1 && (wordIn x y 2 && wordIn x y 3)) e
+    pick : (getD z 0 0 ≡ 0) × (getD z 1 0 ≡ 0) × (getD z 2 0 ≡ 0) × (getD z 3 0 ≡ 0) → (j : ℕ) → j < 4 → getD z j 0 ≡ 0
+    pick h zero l = h .0
+    pick h (suc zero) l = h .1
+    pick h (suc (suc zero)) l = h .2
+    pick h (suc (suc (suc zero))) l = h .3
+    pick h (suc (suc (suc (suc j)))) l = absurd (omega arith)
 
-    h1 : (wordIn x y 1 ≡ true) × ((wordIn x y 2 && wordIn x y 3) ≡ true)
-    h1 = and-true (wordIn x y 1) (wordIn x y 2 && wordIn x y 3) (h0 .1)
+no-members : (z : Set) → allWords z ≡ 0 → (s : ℕ) → s < 256 → member z s ≡ false
+unfolding member
+no-members z e s l = rw (no-words z e (s / 64) (omega arith)) (bit-zero (s % 64))
 
-    h2 : (wordIn x y 2 ≡ true) × (wordIn x y 3 ≡ true)
-    h2 = and-true (wordIn x y 2) (wordIn x y 3) (h1 .1)
+but-none : (a b : Bool) → (a ≡ true → b ≡ true) → (a && not b) ≡ false
+but-none true b h = rw (h refl)
+but-none false b h = refl
 
-    pick : (j : ℕ) → j < 4 → wordIn x y j ≡ true
-    pick zero l = h0 .0
-    pick (suc zero) l = h1 .0
-    pick (suc (suc zero)) l = h2 .0
-    pick (suc (suc (suc zero))) l = h2 .1
-    pick (suc (suc (suc (suc j)))) l = absurd (omega arith)
+module _ (x y : Set) where
+  minus-none : Within 256 x y → minus 256 x y ≡ empty
+  unfolding minus
+  minus-none h =
+      proper-ext 256 (omega arith) (proper-of 256 (omega arith) _) (proper-empty 256 (omega arith))
+      (λ s l. member-of 256 (omega arith) _ s l ∙ but-none (member x s) (member y s) (h .at s l) ∙ sym (member-empty s))
 
-and-sub : (a b : Bool) → (a ≡ true → b ≡ true) → (a && b) ≡ a
-and-sub true b h = h refl
-and-sub false b h = refl
-
-module _ (x y : Set) (hx : Proper 256 x) (hy : Proper 256 y) where
-  words-in : Within 256 x y → (j : ℕ) → j < 4 → wordIn x y j ≡ true
-  unfolding meet
-  words-in h j l =
-      eq-eqb _ _ (sym (zip-at bitAnd x y j l) ∙ ap (λ (z : Set). getD z j 0)
-      (meet-words x y hx hy ∙ set-ext 256 _ _ (λ s m. and-sub (member x s) (member y s) (h .at s m)) ∙ hx .is))
-
-  in-words : wordsIn x y ≡ true → Within 256 x y
-  unfolding member
-  in-words e =
-      record {
-        at = λ s l m. and-true (member x s) (member y s)
-            (sym (bit-and (getD x (s / 64) 0) (getD y (s / 64) 0) (s % 64))
-            ∙ ap (λ (v : ℕ). bit v (s % 64)) (eqb-true _ _ (each-word x y e (s / 64) (omega arith))) ∙ m) .1;
-      }
-
-  pub within-words : wordsIn x y ≡ within 256 x y
-  unfolding wordsIn
-  within-words = go (within-says 256 x y)
+  pub within-minus : (z : Set) → z ≡ minus 256 x y → eqb (allWords z) 0 ≡ within 256 x y
+  unfolding empty
+  within-minus z e = go (within-says 256 x y)
     where
-      go : {b : Bool} → Says (Within 256 x y) (Beyond 256 x y) b → wordsIn x y ≡ b
-      go (pass h) = rw (words-in h 0 (omega arith), words-in h 1 (omega arith), words-in h 2 (omega arith), words-in h 3 (omega arith))
-      go (fail w) = elim (which (wordsIn x y)) [ inl e ↦ absurd (not-both 256 (in-words e) w) | inr e ↦ e ]
+      go : {b : Bool} → Says (Within 256 x y) (Beyond 256 x y) b → eqb (allWords z) 0 ≡ b
+      go (pass h) = rw (e ∙ minus-none h)
+      go (fail w) =
+          ne-eqb _ _ (λ (q : allWords z ≡ 0). clash
+          (rw e (member-minus 256 (omega arith) x y (w .who) (w .below) ∙ rw (w .is, w .not)))
+          (no-members z q (w .who) (w .below)))
 
 -- ---- one member, and one member more
 pub member-code : (x : Set) (s : ℕ) → eqb (bitAnd (getD x (s / 64) 0 / 2 ^ (s % 64)) 1) 1 ≡ member x s
@@ -307,5 +306,39 @@ pub sets-step : (l x : List ℕ) (i k : ℕ) → k < length x → sets l (i + k)
 sets-step l x i k h = let e : i + (k + 1) ≡ suc (i + k) = omega arith in rw (drop-cons x k 0 h, e, add-one)
 
 -- what is put over the front of a list stands there
+pub sets-four : (l x : List ℕ) (i : ℕ) → length x ≡ 4
+    → set (set (set (set l i (getD x 0 0)) (i + 1) (getD x 1 0)) (i + 2) (getD x 2 0)) (i + 3) (getD x 3 0) ≡ sets l i x
+sets-four l x i e =
+    let p : i + 1 ≡ suc i = omega arith in
+    let q : i + 2 ≡ suc (suc i) = omega arith in
+    let r : i + 3 ≡ suc (suc (suc i)) = omega arith in
+    rw (p, q, r) (ap (sets l i) (sym (four-of x e)))
+
+-- the loop of `write` at word k: the words of v from k on are still to be put
+pub record Writing (b₀ : List ℕ) (at : ℕ) (v b : List ℕ) (k : ℕ) : Type 0 where
+  pub in-range : k ≤ 4
+  pub long : length b ≡ length b₀
+  pub rest : sets b (at + k) (drop k v) ≡ sets b₀ at v
+
+pub write-begins : (b₀ : List ℕ) (at : ℕ) (v : List ℕ) → Writing b₀ at v b₀ 0
+write-begins b₀ at v = record { in-range = omega arith; long = refl; rest = rw add-zero }
+
+module _ (b₀ : List ℕ) (at : ℕ) (v b : List ℕ) (k : ℕ) (w : Writing b₀ at v b k) where
+  -- the list ends before the place, or before word k
+  pub write-off : length b ≤ at → b ≡ sets b₀ at v
+  write-off l = sym (sets-past (drop k v) b (at + k) (omega arith)) ∙ w .rest
+
+  pub write-out : length b - at ≤ k → b ≡ sets b₀ at v
+  write-out l = sym (sets-past (drop k v) b (at + k) (omega arith)) ∙ w .rest
+
+  pub write-goes : length v ≡ 4 → k < 4 → Writing b₀ at v (set b (at + k) (getD v k 0)) (k + 1)
+  write-goes e l =
+      record { in-range = omega arith; long = simp length-set (w .long); rest = sym (sets-step b v at k (omega arith)) ∙ w .rest }
+
+  pub write-ends : length v ≡ 4 → 4 ≤ k → b ≡ sets b₀ at v
+  write-ends e l =
+      let d : drop k v ≡ [] = drop-of-length-le v {i = k} (omega arith) in
+      rw d at (w .rest)
+
 pub take-sets : (w l : List ℕ) → length w ≤ length l → take (length w) (sets l 0 w) ≡ w
 take-sets w l h = rw (sets-eq w l 0 (omega arith)) (take-at w (drop (0 + length w) l) (length w) refl)

@@ -106,16 +106,8 @@ impl StateSet {
     pub fn within(self, o: StateSet) -> bool
         ensures { λ r. ⌜ r ≡ within 256 (self .words) (o .words) ⌝ }
     {
-        if self.words[0] & o.words[0] != self.words[0] {
-            return false;
-        }
-        if self.words[1] & o.words[1] != self.words[1] {
-            return false;
-        }
-        if self.words[2] & o.words[2] != self.words[2] {
-            return false;
-        }
-        self.words[3] & o.words[3] == self.words[3]
+        let out = self.minus(o);
+        out.words[0] | out.words[1] | out.words[2] | out.words[3] == 0
     }
 
     // Whether no member is from n up.
@@ -208,6 +200,15 @@ impl StateSet {
     pub fn write(self, b: &mut [u64], at: usize)
         ensures { λ r. ⌜ now (b .exit) ≡ sets (now (b .entry)) at (self .words) ⌝ }
     {
+        if 4 <= b.len() {
+            if at <= b.len() - 4 {
+                b[at] = self.words[0];
+                b[at + 1] = self.words[1];
+                b[at + 2] = self.words[2];
+                b[at + 3] = self.words[3];
+                return;
+            }
+        }
         let mut k = 0;
         while k < 4 {
             if b.len() <= at {

@@ -6,6 +6,7 @@ ghost use lib.ListN.{length};
 ghost use Rattle.sets.specs.Sets.{count};
 ghost use Rattle.tables.specs.Control.{sized, clearAt, clearPast, labelAt, labelled, tableRefusal, writeRefusal, controlFrom};
 ghost use Rattle.tables.specs.Steps.{moveCount};
+use moves::Model;
 use sets::StateSet;
 
 // Whether the move table, the angles and the modes have their lengths.
@@ -110,7 +111,12 @@ fn table_refusal(
     if 256 < n {
         return answers::OUT_OF_RANGE;
     }
-    if !moves::sound_table(moves, n, starts, safe) {
+    let model = Model {
+        size: n,
+        starts,
+        safe,
+    };
+    if !moves::sound_table(moves, model) {
         return answers::NOT_SOUND;
     }
     if !clear_past(n as usize, angles, modes) {

@@ -30,7 +30,15 @@ pub fn run_lent(
     let old_walk = print::widened(walk);
     let i = tables::set(t.i);
     let p = tables::set(t.p);
-    let a = runs::run(moves, t.size, i, p, buf, hints, budget, set, walk);
+    let a = runs::run(
+        moves,
+        tables::model(t.size, i, p),
+        buf,
+        hints,
+        budget,
+        set,
+        walk,
+    );
     say(label);
     print::answer(a);
     print::written(b"; set", set, &old_set);
@@ -50,7 +58,7 @@ pub fn single_lent(label: &[u8], moves: &[u64], t: Table, buf: &mut [u64], z: St
     let old = print::copied(buf);
     let i = tables::set(t.i);
     let p = tables::set(t.p);
-    let asked = runs::single(moves, t.size, i, p, buf, z);
+    let asked = runs::single(moves, tables::model(t.size, i, p), buf, z);
     say(label);
     match asked {
         Asked::Fired(rule) => print::fired(rule),

@@ -1,4 +1,5 @@
 // The tables that the cases use. Sets are given by their first word: state s is bit s.
+use moves::Model;
 use sets::StateSet;
 
 pub struct Table {
@@ -13,6 +14,11 @@ pub fn set(w: u64) -> StateSet {
     StateSet {
         words: [w, 0, 0, 0],
     }
+}
+
+// A model of so many states, starts and safe states.
+pub fn model(size: u16, starts: StateSet, safe: StateSet) -> Model {
+    Model { size, starts, safe }
 }
 
 // A of document 01: moves 0 to 1 and 1 to 0, I {0}, P {0,1}.

@@ -1,41 +1,19 @@
 use borrow.Author.Needs.{needs}
 use Rattle.moves.proofs.backward.Statement.{statement}
 use Rattle.moves.proofs.backward.Tie as tie
-use Prim.Native.Nat.{_≤_, _-_}
-use mathlib.Core.Path.{_≡_, sym, _∙_}
-use mathlib.Core.Logic.{⊎-elim}
-use native.Mathlib.Omega.{arith}
-use Rattle.moves.specs.Wide.{backward256}
-use Rattle.moves.proofs.Rows.{backward-none, backward-in, backward-out}
+use Rattle.moves.proofs.backward.Lts as lts
+use Rattle.moves.proofs.backward.Reads as reads
+use Rattle.moves.proofs.Rows.{four-words}
 
-abbrev Inv-loop : tie.InvT-loop
-Inv-loop moves n x acc₀ s₀ acc s = (s ≤ n) × (acc .words ≡ backward256 s moves (x .words))
-
-abbrev μ-loop : tie.MeasureT-loop
-μ-loop moves n x acc₀ s₀ acc s = n - s
-
-loop-holds : tie.Need-loop-holds Inv-loop μ-loop
-loop-holds c = (search needs, backward-none _ _)
-
-loop-again : tie.Need-loop-again Inv-loop μ-loop
-loop-again c = (search needs, ⊎-elim (λ w. cc (backward-in _ _ _ (sym (rw (c .before .before .read .ensures) at (c .before .within .ensures)) ∙ w .0 .taken))) (λ w. cc (backward-out _ _ _ (sym (rw (c .before .before .read .ensures) at (c .before .within .ensures)) ∙ w .0 .left))) (c .if1 .came))
-
-returns : tie.Need-returns Inv-loop μ-loop
-returns c = let e : c .before .loop .s ≡ c .before .before .before .args .n = omega arith in rw e at (c .before .loop .inv .1)
+returns : tie.Need-returns
+returns c = four-words _ _ _ _ _ _ _ (c .before .before .before .backward-word .ensures) (c .before .before .backward-word2 .ensures) (c .before .backward-word3 .ensures) (c .backward-word4 .ensures)
 
 pub backward-spec : {M : Type 1} → statement M
 backward-spec =
     tie.close
     (tie.spec
-    Inv-loop
-    μ-loop
-    loop-holds
-    (λ c. search needs)
-    (λ c. search needs)
     (λ c κs. search needs)
     (λ c κs. search needs)
     (λ c κs. search needs)
-    (λ c. search needs)
-    (λ c. search needs)
-    loop-again
+    (λ c κs. search needs)
     returns)

@@ -1,18 +1,14 @@
-use mathlib.Core.Path.{sym, ap, _∙_}
+-- `takes` meets its contract: Unfold ignores the proposal; another rule asks whether it will do.
 use borrow.Author.Needs.{needs}
-use Rattle.rules.specs.Buffer.{decode}
-use Rattle.rules.specs.Runs.{asks}
-use Rattle.rules.specs.Table.{table}
-use Rattle.runs.proofs.Steps.{rule-is, takes-any, takes-is}
-use Rattle.sets.proofs.Tests.{not-true, not-false}
+use Rattle.runs.proofs.Choices.{takes-any, takes-is}
 use Rattle.runs.proofs.takes.Statement.{statement}
 use Rattle.runs.proofs.takes.Tie as tie
 
 returns : tie.Need-returns
-returns c = takes-any (table (c .before .before .before .before .args .size) (c .before .before .before .before .args .i .words) (c .before .before .before .before .args .p .words) (c .before .before .before .before .args .moves .now)) (decode (c .before .before .before .before .args .buf .now)) _ (ap asks (rule-is _ _ (c .before .before .before .before .pre .1)) ∙ sym (c .before .asks .ensures) ∙ not-true _ (c .if1 .taken))
+returns c = search (takes-any, needs)
 
 returns-2 : tie.Need-returns-2
-returns-2 c = takes-is (table (c .before .before .before .before .before .before .args .size) (c .before .before .before .before .before .before .args .i .words) (c .before .before .before .before .before .before .args .p .words) (c .before .before .before .before .before .before .args .moves .now)) (decode (c .before .before .before .before .before .before .args .buf .now)) _ _ (ap asks (rule-is _ _ (c .before .before .before .before .before .before .pre .1)) ∙ sym (c .before .before .before .asks .ensures) ∙ not-false _ (c .before .before .if1 .left)) (c .will-do .ensures)
+returns-2 c = search (takes-is, needs)
 
 pub takes-spec : {M : Type 1} → statement M
 takes-spec =
@@ -20,6 +16,5 @@ takes-spec =
     (tie.spec
     (λ c κs. search needs)
     returns
-    (λ c κs. search needs)
     (λ c κs. search needs)
     returns-2)

@@ -1,3 +1,4 @@
+-- `asks` meets its contract: the definition's own cases.
 use borrow.Author.Needs.{needs}
 use Rattle.rules.specs.Runs.{asks}
 use Rattle.runs.specs.Said.{asRule}

@@ -1,12 +1,11 @@
-use mathlib.Core.Path.{refl}
+-- `fire_decide` meets its contract: two stores make the words of the next state.
 use borrow.Author.Needs.{needs}
-use Rattle.rules.specs.Table.{table}
 use Rattle.runs.proofs.Stores.{fired-decide}
 use Rattle.runs.proofs.firing.fire_decide.Statement.{statement}
 use Rattle.runs.proofs.firing.fire_decide.Tie as tie
 
 returns : tie.Need-returns
-returns c = fired-decide (table (c .before .before .before .before .before .before .before .args .size) (c .before .before .before .before .before .before .before .args .i .words) (c .before .before .before .before .before .before .before .args .p .words) (c .before .before .before .before .before .before .before .args .moves .now)) (c .before .before .before .before .before .before .before .args .buf .now) (c .before .before .before .before .before .before .before .pre) _ _ _ (search needs) (c .before .before .write .ensures) refl
+returns c = search (fired-decide, needs)
 
 pub fire-decide-spec : {M : Type 1} → statement M
 fire-decide-spec =

@@ -1,76 +1,110 @@
+-- `advance` meets its contract. The loop: the whole run is the run from here, with what it has done already.
+use borrow.Author.Needs.{needs}
 use Prim.Native.Nat.{_-_, _≤_}
 use native.Mathlib.Omega.{arith}
-use mathlib.Core.Path.{_≡_, sym, ap, _∙_}
-use borrow.Author.Needs.{needs}
-use lib.ListN.{length}
-use Rattle.moves.proofs.Refused.{taken}
-use Rattle.rules.proofs.Buffer.{encode-length}
-use Rattle.rules.proofs.Ends.{has-room}
-use Rattle.rules.proofs.Held.{Fit}
+use Rattle.moves.specs.Models.{on}
 use Rattle.rules.specs.Buffer.{decode}
-use Rattle.rules.specs.Runs.{run}
-use Rattle.rules.specs.Table.{table}
-use Rattle.runs.proofs.Reading.{ready-fit}
-use Rattle.runs.proofs.Runs.{step-few, Ahead, ahead-start, end-spent, end-done, turn}
-use Rattle.runs.proofs.Steps.{not-open, is-open, room}
+use Rattle.rules.specs.Runs.{run, Outcome}
+use Rattle.rules.specs.Table.{Table}
+use Rattle.runs.proofs.Runs.{Going, Turning, going, end-spent, end-concluded, turning, never-full, goes-on}
+use Rattle.runs.proofs.Steps.{step-few}
 use Rattle.runs.specs.Hints.{hintsAt}
-use Rattle.sets.proofs.Tests.{clash, not-true, not-false}
 use Rattle.runs.proofs.search.advance.Statement.{statement}
 use Rattle.runs.proofs.search.advance.Tie as tie
 
 abbrev Inv-loop : tie.InvT-loop
-Inv-loop moves size i p buf₀ hints budget fired₀ taken₀ used₀ buf fired taken used = Fit (table size (i .words) (p .words) moves) buf × Ahead (table size (i .words) (p .words) moves) (run (table size (i .words) (p .words) moves) budget (hintsAt hints 0) (decode buf₀)) hints budget fired taken used buf × (fired ≤ budget) × (taken ≤ fired) × (used ≤ taken) × (length buf ≡ 2066)
+Inv-loop moves model buf₀ hints budget _ _ _ _ _ _ buf memo fired taken used from to =
+    Going (on model moves) hints budget (run (on model moves) budget (hintsAt hints 0) (decode buf₀)) buf memo fired taken used from to
 
 abbrev μ-loop : tie.MeasureT-loop
-μ-loop moves size i p buf₀ hints budget fired₀ taken₀ used₀ buf fired taken used = budget - fired
+μ-loop _ _ _ _ budget _ _ _ _ _ _ _ _ fired _ _ _ _ = budget - fired
+
+-- the loop's head: the start, the table, and what the whole run comes to
+abbrev start : tie.At-loop Inv-loop μ-loop → tie.Start Inv-loop μ-loop
+start c = c .before .before .before .before .before
+
+abbrev t : tie.At-loop Inv-loop μ-loop → Table
+t c = on (start c .args .model) (start c .args .moves .now)
+
+abbrev whole : tie.At-loop Inv-loop μ-loop → Outcome
+whole c = run (t c) (start c .args .budget) (hintsAt (start c .args .hints .now) 0) (decode (start c .args .buf .now))
+
+-- the run is open: a rule is fired in this turn
+abbrev head : tie.Else2 Inv-loop μ-loop → tie.At-loop Inv-loop μ-loop
+head c = c .before .before .before .before .before
+
+turn : (c : tie.Else2 Inv-loop μ-loop)
+    → Turning (t (head c)) (start (head c) .args .hints .now) (start (head c) .args .budget) (whole (head c))
+    (head c .loop .buf) (head c .loop .fired) (head c .loop .taken) (head c .loop .used)
+turn c =
+    let unspent = c .before .before in
+    turning (head c .loop .inv .running) (unspent .before .conclusion .ensures) (unspent .if1 .left) (c .before .is-open .ensures) (c .if2 .left)
+
+-- the rule due is known
+abbrev opened : tie.After-due Inv-loop μ-loop → tie.Else2 Inv-loop μ-loop
+opened c = c .before .before .before
+
+-- the rule is fired: at most one hint was taken
+abbrev ruled : tie.After-step Inv-loop μ-loop → tie.After-due Inv-loop μ-loop
+ruled c = c .before .before .before .before .before .before .before
+
+few : (c : tie.After-step Inv-loop μ-loop) → (c .step .result .taken ≤ 1) × (c .step .result .used ≤ c .step .result .taken)
+few c = step-few _ _ _ _ _ _ _ _ _ (c .step .ensures)
 
 loop-holds : tie.Need-loop-holds Inv-loop μ-loop
-loop-holds c = (c .before .before .before .pre .3, ahead-start _ _ _ _, omega arith, omega arith, omega arith, c .before .before .before .pre .1)
-
-conclusion-requires : tie.Need-conclusion-requires Inv-loop μ-loop
-conclusion-requires c κs = (ready-fit _ _ (c .before .before .before .before .before .pre .0) ((c .before .loop .inv) .5) (c .before .before .before .before .before .pre .2) ((c .before .loop .inv) .0))
-
-same-length : tie.Need-same-length Inv-loop μ-loop
-same-length c = (c .before .before .before .loop .inv) .5 ∙ sym (c .before .before .before .before .before .before .before .pre .1)
+loop-holds c = search (going, needs)
 
 returns : tie.Need-returns Inv-loop μ-loop
-returns c = end-spent _ _ _ _ _ _ _ _ ((c .before .before .before .loop .inv) .1) ((c .before .before .before .loop .inv) .0) (c .if1 .taken) _ (c .before .conclusion .ensures)
-
-same-length-2 : tie.Need-same-length-2 Inv-loop μ-loop
-same-length-2 c = (c .before .before .before .before .before .loop .inv) .5 ∙ sym (c .before .before .before .before .before .before .before .before .before .pre .1)
+returns c = search (end-spent, needs)
 
 returns-2 : tie.Need-returns-2 Inv-loop μ-loop
-returns-2 c = end-done _ _ _ _ _ _ _ _ ((c .before .before .before .before .before .loop .inv) .1) ((c .before .before .before .before .before .loop .inv) .0) (not-open _ _ _ (c .before .before .before .conclusion .ensures) (sym (c .before .is-open .ensures) ∙ not-true _ (c .if2 .taken))) _ (c .before .before .before .conclusion .ensures)
+returns-2 c =
+    let asked = c .before in
+    let told = asked .before .before in
+    search (end-concluded, told .before .before .loop .inv .running, told .conclusion .ensures, asked .is-open .ensures, c .if2 .taken)
 
 due-requires : tie.Need-due-requires Inv-loop μ-loop
-due-requires c κs = (ready-fit _ _ (c .before .before .before .before .before .before .before .before .before .before .pre .0) ((c .before .before .before .before .before .before .loop .inv) .5) (c .before .before .before .before .before .before .before .before .before .before .pre .2) ((c .before .before .before .before .before .before .loop .inv) .0))
-
-lacks-room-requires : tie.Need-lacks-room-requires Inv-loop μ-loop
-lacks-room-requires c κs = ((ready-fit _ _ (c .before .before .before .before .before .before .before .before .before .before .before .before .pre .0) ((c .before .before .before .before .before .before .before .before .loop .inv) .5) (c .before .before .before .before .before .before .before .before .before .before .before .before .pre .2) ((c .before .before .before .before .before .before .before .before .loop .inv) .0)), c .before .due .ensures)
-
-same-length-3 : tie.Need-same-length-3 Inv-loop μ-loop
-same-length-3 c = (c .before .before .before .before .before .before .before .before .before .before .loop .inv) .5 ∙ sym (c .before .before .before .before .before .before .before .before .before .before .before .before .before .before .pre .1)
+due-requires c κs =
+    let is-open = c .before .before in
+    (turn is-open .running .ready, head is-open .loop .inv .kept)
 
 returns-3 : tie.Need-returns-3 Inv-loop μ-loop
-returns-3 c = absurd (clash (sym (c .before .lacks-room .ensures) ∙ c .if3 .taken) (has-room (table (c .before .before .before .before .before .before .before .before .before .before .before .before .before .before .args .size) (c .before .before .before .before .before .before .before .before .before .before .before .before .before .before .args .i .words) (c .before .before .before .before .before .before .before .before .before .before .before .before .before .before .args .p .words) (c .before .before .before .before .before .before .before .before .before .before .before .before .before .before .args .moves .now)) (c .before .before .before .before .before .before .before .before .before .before .before .before .before .before .pre .2 .big) _ ((c .before .before .before .before .before .before .before .before .before .before .loop .inv) .0 .inv) (is-open (table (c .before .before .before .before .before .before .before .before .before .before .before .before .before .before .args .size) (c .before .before .before .before .before .before .before .before .before .before .before .before .before .before .args .i .words) (c .before .before .before .before .before .before .before .before .before .before .before .before .before .before .args .p .words) (c .before .before .before .before .before .before .before .before .before .before .before .before .before .before .args .moves .now)) _ _ (c .before .before .before .before .before .before .before .before .conclusion .ensures) (sym (c .before .before .before .before .before .before .is-open .ensures) ∙ not-false _ (c .before .before .before .before .before .if2 .left)))))
+returns-3 c =
+    let known = c .before .before .before .before .before in
+    never-full (turn (opened known)) (known .due .ensures .due) (c .before .lacks-room .ensures) (c .if3 .taken)
 
 step-requires : tie.Need-step-requires Inv-loop μ-loop
-step-requires c κs = ((ready-fit _ _ (c .before .before .before .before .before .before .before .before .before .before .before .before .before .before .before .pre .0) ((c .before .before .before .before .before .before .before .before .before .before .before .loop .inv) .5) (c .before .before .before .before .before .before .before .before .before .before .before .before .before .before .before .pre .2) ((c .before .before .before .before .before .before .before .before .before .before .before .loop .inv) .0)), c .before .before .before .before .due .ensures, room _ (c .before .before .before .before .before .before .before .before .before .before .before .before .before .before .before .pre .2) _ ((c .before .before .before .before .before .before .before .before .before .before .before .loop .inv) .0) (is-open (table (c .before .before .before .before .before .before .before .before .before .before .before .before .before .before .before .args .size) (c .before .before .before .before .before .before .before .before .before .before .before .before .before .before .before .args .i .words) (c .before .before .before .before .before .before .before .before .before .before .before .before .before .before .before .args .p .words) (c .before .before .before .before .before .before .before .before .before .before .before .before .before .before .before .args .moves .now)) _ _ (c .before .before .before .before .before .before .before .before .before .conclusion .ensures) (sym (c .before .before .before .before .before .before .before .is-open .ensures) ∙ not-false _ (c .before .before .before .before .before .before .if2 .left))))
+step-requires c κs =
+    let known = c .before .before .before .before .before .before in
+    let now = turn (opened known) in
+    (record { ready = now .running .ready; due = known .due .ensures .due; house = known .due .ensures .house }, now .opened)
 
 add-fired : tie.Need-add-fired Inv-loop μ-loop
-add-fired c = omega (arith, c .before .before .before .before .before .before .before .before .before .before .before .before .before .before .before .before .before .before .fits .budget)
+add-fired c =
+    let is-open = opened (ruled (c .before .before)) in
+    omega (arith, turn is-open .more, start (head is-open) .fits .budget)
 
 add-taken : tie.Need-add-taken Inv-loop μ-loop
-add-taken c = omega (arith, (step-few _ _ _ _ _ _ _ (c .before .before .before .step .ensures)) .0, (step-few _ _ _ _ _ _ _ (c .before .before .before .step .ensures)) .1, c .before .before .before .before .before .before .before .before .before .before .before .before .before .before .before .before .before .before .before .fits .budget)
+add-taken c =
+    let stepped = c .before .before .before in
+    let is-open = opened (ruled stepped) in
+    omega (arith, few stepped, turn is-open .more, turn is-open .running, start (head is-open) .fits .budget)
 
 add-used : tie.Need-add-used Inv-loop μ-loop
-add-used c = omega (arith, (step-few _ _ _ _ _ _ _ (c .before .before .before .before .step .ensures)) .0, (step-few _ _ _ _ _ _ _ (c .before .before .before .before .step .ensures)) .1, c .before .before .before .before .before .before .before .before .before .before .before .before .before .before .before .before .before .before .before .before .fits .budget)
+add-used c =
+    let stepped = c .before .before .before .before in
+    let is-open = opened (ruled stepped) in
+    omega (arith, few stepped, turn is-open .more, turn is-open .running, start (head is-open) .fits .budget)
 
 loop-less : tie.Need-loop-less Inv-loop μ-loop
-loop-less c = omega arith
+loop-less c = omega (arith, turn (opened (ruled (c .before .before .before .before))) .more)
 
 loop-again : tie.Need-loop-again Inv-loop μ-loop
-loop-again c = ((turn _ _ _ _ _ _ _ _ ((c .before .before .before .before .before .before .before .before .before .before .before .before .before .before .before .before .loop .inv) .1) ((c .before .before .before .before .before .before .before .before .before .before .before .before .before .before .before .before .loop .inv) .0) (c .before .before .before .before .before .before .before .before .before .before .before .before .before .before .before .before .before .before .before .before .pre .2) (λ i. c .before .before .before .before .before .before .before .before .before .before .before .before .before .before .before .before .before .shared-slice-known2 .given i .fits) (is-open (table (c .before .before .before .before .before .before .before .before .before .before .before .before .before .before .before .before .before .before .before .before .args .size) (c .before .before .before .before .before .before .before .before .before .before .before .before .before .before .before .before .before .before .before .before .args .i .words) (c .before .before .before .before .before .before .before .before .before .before .before .before .before .before .before .before .before .before .before .before .args .p .words) (c .before .before .before .before .before .before .before .before .before .before .before .before .before .before .before .before .before .before .before .before .args .moves .now)) _ _ (c .before .before .before .before .before .before .before .before .before .before .before .before .before .before .conclusion .ensures) (sym (c .before .before .before .before .before .before .before .before .before .before .before .before .is-open .ensures) ∙ not-false _ (c .before .before .before .before .before .before .before .before .before .before .before .if2 .left))) (omega arith) _ _ _ (c .before .before .before .before .step .ensures)) .0, (turn _ _ _ _ _ _ _ _ ((c .before .before .before .before .before .before .before .before .before .before .before .before .before .before .before .before .loop .inv) .1) ((c .before .before .before .before .before .before .before .before .before .before .before .before .before .before .before .before .loop .inv) .0) (c .before .before .before .before .before .before .before .before .before .before .before .before .before .before .before .before .before .before .before .before .pre .2) (λ i. c .before .before .before .before .before .before .before .before .before .before .before .before .before .before .before .before .before .shared-slice-known2 .given i .fits) (is-open (table (c .before .before .before .before .before .before .before .before .before .before .before .before .before .before .before .before .before .before .before .before .args .size) (c .before .before .before .before .before .before .before .before .before .before .before .before .before .before .before .before .before .before .before .before .args .i .words) (c .before .before .before .before .before .before .before .before .before .before .before .before .before .before .before .before .before .before .before .before .args .p .words) (c .before .before .before .before .before .before .before .before .before .before .before .before .before .before .before .before .before .before .before .before .args .moves .now)) _ _ (c .before .before .before .before .before .before .before .before .before .before .before .before .before .before .conclusion .ensures) (sym (c .before .before .before .before .before .before .before .before .before .before .before .before .is-open .ensures) ∙ not-false _ (c .before .before .before .before .before .before .before .before .before .before .before .if2 .left))) (omega arith) _ _ _ (c .before .before .before .before .step .ensures)) .1, omega arith, omega (arith, (step-few _ _ _ _ _ _ _ (c .before .before .before .before .step .ensures)) .0, (step-few _ _ _ _ _ _ _ (c .before .before .before .before .step .ensures)) .1), omega (arith, (step-few _ _ _ _ _ _ _ (c .before .before .before .before .step .ensures)) .0, (step-few _ _ _ _ _ _ _ (c .before .before .before .before .step .ensures)) .1), ap length (c .before .before .before .before .step .ensures .next) ∙ encode-length _)
+loop-again c =
+    let stepped = c .before .before .before .before in
+    let known = ruled stepped in
+    let is-open = opened known in
+    goes-on (turn is-open) (λ i. head is-open .before .before .shared-slice-known2 .given i .fits) (known .due .ensures .kept) (stepped .step .ensures)
 
 pub advance-spec : {M : Type 1} → statement M
 advance-spec =
@@ -78,16 +112,20 @@ advance-spec =
     (tie.spec
     Inv-loop
     μ-loop
+    (λ c. search needs)
+    (λ c. search needs)
     loop-holds
-    conclusion-requires
-    same-length
+    (λ c κs. search needs)
+    (λ c. search needs)
     returns
     (λ c κs. search needs)
-    same-length-2
+    (λ c. search needs)
     returns-2
+    (λ c. search needs)
     due-requires
-    lacks-room-requires
-    same-length-3
+    (λ c. search needs)
+    (λ c κs. search needs)
+    (λ c. search needs)
     returns-3
     step-requires
     add-fired

@@ -1,3 +1,4 @@
+-- `is_open` meets its contract: the definition's own cases.
 use borrow.Author.Needs.{needs}
 use Rattle.runs.specs.Said.{isOpen}
 use Rattle.runs.proofs.search.is_open.Statement.{statement}

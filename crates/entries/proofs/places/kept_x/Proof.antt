@@ -1,0 +1,44 @@
+-- `kept_x` meets its contract. The loop tests every place of an x.
+use borrow.Author.Needs.{needs}
+use Prim.Native.Nat.{_-_}
+use Rattle.entries.proofs.Tests.{kept-x-at}
+use Rattle.rules.proofs.Loops.{AllSoFar, all-begins, all-goes, all-fails, all-ends}
+use Rattle.rules.specs.Buffer.{keptX}
+use Rattle.entries.proofs.places.kept_x.Statement.{statement}
+use Rattle.entries.proofs.places.kept_x.Tie as tie
+
+abbrev Inv-loop : tie.InvT-loop
+Inv-loop size buf n j₀ j = AllSoFar (keptX size buf) 258 j
+
+abbrev μ-loop : tie.MeasureT-loop
+μ-loop size buf n j₀ j = 258 - j
+
+loop-holds : tie.Need-loop-holds Inv-loop μ-loop
+loop-holds c = search (all-begins, needs)
+
+returns : tie.Need-returns Inv-loop μ-loop
+returns c = search (all-fails, kept-x-at, needs)
+
+loop-again : tie.Need-loop-again Inv-loop μ-loop
+loop-again c = search (all-goes, kept-x-at, needs)
+
+returns-2 : tie.Need-returns-2 Inv-loop μ-loop
+returns-2 c = search (all-ends, needs)
+
+pub kept-x-spec : {M : Type 1} → statement M
+kept-x-spec =
+    tie.close
+    (tie.spec
+    Inv-loop
+    μ-loop
+    (λ c. search needs)
+    loop-holds
+    (λ c. search needs)
+    (λ c. search needs)
+    (λ c κs. search needs)
+    (λ c κs. search needs)
+    returns
+    (λ c. search needs)
+    (λ c. search needs)
+    loop-again
+    returns-2)

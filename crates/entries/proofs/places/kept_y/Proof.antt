@@ -1,0 +1,46 @@
+-- `kept_y` meets its contract. The loop tests every place of a y.
+use borrow.Author.Needs.{needs}
+use Prim.Native.Nat.{_-_}
+use Rattle.entries.proofs.Tests.{kept-y-at}
+use Rattle.rules.proofs.Loops.{AllSoFar, all-begins, all-goes, all-fails, all-ends}
+use Rattle.rules.specs.Buffer.{keptY}
+use Rattle.entries.proofs.places.kept_y.Statement.{statement}
+use Rattle.entries.proofs.places.kept_y.Tie as tie
+
+abbrev Inv-loop : tie.InvT-loop
+Inv-loop size buf n k j₀ j = AllSoFar (keptY size buf) 258 j
+
+abbrev μ-loop : tie.MeasureT-loop
+μ-loop size buf n k j₀ j = 258 - j
+
+loop-holds : tie.Need-loop-holds Inv-loop μ-loop
+loop-holds c = search (all-begins, needs)
+
+returns : tie.Need-returns Inv-loop μ-loop
+returns c = search (all-fails, kept-y-at, needs)
+
+loop-again : tie.Need-loop-again Inv-loop μ-loop
+loop-again c = search (all-goes, kept-y-at, needs)
+
+returns-2 : tie.Need-returns-2 Inv-loop μ-loop
+returns-2 c = search (all-ends, needs)
+
+pub kept-y-spec : {M : Type 1} → statement M
+kept-y-spec =
+    tie.close
+    (tie.spec
+    Inv-loop
+    μ-loop
+    (λ c. search needs)
+    (λ c. search needs)
+    loop-holds
+    (λ c. search needs)
+    (λ c. search needs)
+    (λ c κs. search needs)
+    (λ c κs. search needs)
+    (λ c κs. search needs)
+    returns
+    (λ c. search needs)
+    (λ c. search needs)
+    loop-again
+    returns-2)
