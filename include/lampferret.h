@@ -31,8 +31,8 @@ enum { LAMPFERRET_UNFINISHED = 0, LAMPFERRET_SAFE = 1, LAMPFERRET_REACHED = 2 };
 /* The rule that a single rule fired, as document 01 numbers the rules. */
 enum { LAMPFERRET_UNFOLD = 2, LAMPFERRET_CANDIDATE = 3, LAMPFERRET_DECIDE = 4, LAMPFERRET_CONFLICT = 5 };
 
-/* The full set of n states. Refused with 2. */
-uint8_t lampferret_full(uint16_t n, uint64_t set[4]);
+/* The full set of N states. Refused with 2. */
+uint8_t lampferret_full(uint16_t size, uint64_t set[4]);
 
 /* The number of members. */
 uint16_t lampferret_count(const uint64_t set[4]);
@@ -44,21 +44,21 @@ uint16_t lampferret_smallest(const uint64_t set[4]);
 uint8_t lampferret_turn(int16_t a, int16_t b, int16_t *turn);
 
 /* f(x) and g(x). Refused with 7, 2, 13. */
-uint8_t lampferret_f(const uint64_t *moves, size_t moves_length, uint16_t n, const uint64_t x[4], uint64_t result[4]);
-uint8_t lampferret_g(const uint64_t *moves, size_t moves_length, uint16_t n, const uint64_t x[4], uint64_t result[4]);
+uint8_t lampferret_f(const uint64_t *moves, size_t moves_length, uint16_t size, const uint64_t x[4], uint64_t result[4]);
+uint8_t lampferret_g(const uint64_t *moves, size_t moves_length, uint16_t size, const uint64_t x[4], uint64_t result[4]);
 
 /* A fresh run buffer. Refused with 7, 2. */
-uint8_t lampferret_fresh(uint16_t n, uint64_t *run, size_t run_length);
+uint8_t lampferret_fresh(uint16_t size, uint64_t *run, size_t run_length);
 
 /* One rule, with a proposed set. Refused with 7, 2, 13, 8, 10, 11, 9. */
-uint8_t lampferret_single(const uint64_t *moves, size_t moves_length, uint16_t n, const uint64_t starts[4],
+uint8_t lampferret_single(const uint64_t *moves, size_t moves_length, uint16_t size, const uint64_t starts[4],
                           const uint64_t safe[4], uint64_t *run, size_t run_length, const uint64_t proposal[4],
                           uint8_t *rule);
 
 /* A run of at most budget rules. Refused with 7, 2, 13, 8, 11. A safe run writes its set, a reached run its walk.
  * The answer: the verdict; j of a safe run, the number of states of a reached one, else 0; the rules fired; the hints taken;
  * the hints used. */
-uint8_t lampferret_run(const uint64_t *moves, size_t moves_length, uint16_t n, const uint64_t starts[4],
+uint8_t lampferret_run(const uint64_t *moves, size_t moves_length, uint16_t size, const uint64_t starts[4],
                        const uint64_t safe[4], uint64_t *run, size_t run_length, const uint64_t *hints,
                        size_t hints_length, uint64_t budget, uint64_t *set, size_t set_length, uint16_t *walk,
                        size_t walk_length, uint64_t answer[5]);
@@ -69,7 +69,7 @@ uint8_t lampferret_read(const uint8_t *file, size_t file_length, uint64_t *moves
                         uint16_t counts[2], size_t *offset);
 
 /* Writes a table's file to the front of out. Refused with 7, 2, 13, 3, 2, 12. */
-uint8_t lampferret_write(uint16_t n, const uint64_t starts[4], const uint64_t safe[4], const uint64_t *moves,
+uint8_t lampferret_write(uint16_t size, const uint64_t starts[4], const uint64_t safe[4], const uint64_t *moves,
                          size_t moves_length, const int16_t *angles, size_t angles_length, const uint8_t *modes,
                          size_t modes_length, uint8_t *out, size_t out_length, size_t *length);
 

@@ -19,11 +19,11 @@ int main(void) {
         printf("refused %d at %zu\n", refused, offset);
         return 1;
     }
-    uint64_t n = counts[0];
+    uint64_t size = counts[0];
     refused = lampferret_fresh(counts[0], run, LAMPFERRET_RUN_WORDS);
     if (!refused)
         refused = lampferret_run(moves, LAMPFERRET_MOVES_WORDS, counts[0], starts, safe, run, LAMPFERRET_RUN_WORDS, no_hints,
-                                 0, 2 * n * n + 2 * n, set, 4, walk, LAMPFERRET_STATES, answer);
+                                 0, 2 * size * size + 2 * size, set, 4, walk, LAMPFERRET_STATES, answer);
     if (refused)
         printf("refused %d\n", refused);
     else if (answer[0] == LAMPFERRET_SAFE)

@@ -2,7 +2,8 @@
 use mathlib.Core.Path.{_≡_, refl}
 use mathlib.Core.List.{List, [], _∷_}
 use Prim.Native.Nat.{ℕ}
-use Rattle.answers.specs.Refusals.{cutShort, outOfRange, badLabel, noSuchState, notRising, extraBytes, wrongLength, failsEntry, notAllowed, alreadyConcluded, noRoom, shortOutput, notSound}
+use Rattle.answers.specs.Refusals.{cutShort, outOfRange, badLabel, noSuchState, notRising, extraBytes, wrongLength, failsEntry, notAllowed}
+use Rattle.answers.specs.Refusals.{alreadyConcluded, noRoom, shortOutput, notSound}
 
 abbrev table : List ℕ
 table =

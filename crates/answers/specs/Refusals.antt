@@ -1,5 +1,7 @@
--- The refusal numbers of document 01, each named once. Code has the same names as constants.
+-- The refusal numbers of document 01, each named once, and the order in which they are looked for. Code has the same names as constants.
 use Prim.Native.Nat.{ℕ}
+use mathlib.Core.Bool.{Bool, cond}
+use mathlib.Core.List.{List, [], _∷_}
 
 -- the call was taken: no refusal
 abbrev pub noRefusal : ℕ
@@ -56,3 +58,18 @@ shortOutput = 12
 -- the table, a set given to f or g, or the places from N up are not sound
 abbrev pub notSound : ℕ
 notSound = 13
+
+-- ---- which of them
+-- a test, and the number of the refusal where it fails
+pub record Test : Type 0 where
+  pub number : ℕ
+  pub passes : Bool
+
+infix 70 _unless_
+abbrev pub _unless_ : ℕ → Bool → Test
+n unless b = record { number = n; passes = b }
+
+-- the number of the first test that fails, 0 where all pass
+unfoldable pub firstFailing : List Test → ℕ
+firstFailing [] = noRefusal
+firstFailing (t ∷ ts) = cond (t .passes) (firstFailing ts) (t .number)

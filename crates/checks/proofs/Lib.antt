@@ -1,6 +1,9 @@
 pub mod Ends
 pub mod Verdicts
 pub mod Readings
-pub mod Unique
-pub mod Fits
 pub mod Fronts
+pub mod Lengths
+pub mod Stops
+pub mod Fits
+pub mod Unique
+pub mod Tried

@@ -7,7 +7,8 @@ use mathlib.Core.Path.{_≡_, refl, sym, ap, _∙_}
 use borrow.Author.Tests.{eq-eqb, le-leb}
 use lib.ListN.{length}
 use lib.Seq.{sets, length-sets}
-use Rattle.answers.specs.Answer.{Answer, given}
+use Rattle.answers.specs.Answer.{Answer, given, unlessRefused}
+use Rattle.answers.specs.Refusals.{firstFailing}
 use Rattle.rules.proofs.Buffer.{encode-length}
 use Rattle.rules.proofs.Demands.{fresh-inv}
 use Rattle.rules.proofs.Held.{held-back, kept-accepts}
@@ -15,12 +16,12 @@ use Rattle.rules.proofs.Meaning.{walk-length}
 use Rattle.rules.proofs.Normal.{fresh-normal}
 use Rattle.rules.specs.Buffer.{encode, decode}
 use Rattle.rules.specs.Demands.{bound, Ended, ended-safe, ended-reached}
-use Rattle.rules.specs.Rules.{fresh, Result, reached}
+use Rattle.rules.specs.Rules.{fresh, Standing, reached}
 use Rattle.rules.specs.Runs as rules
-use Rattle.rules.specs.Runs.{run, walk}
+use Rattle.rules.specs.Runs.{run}
+use Rattle.rules.specs.ShownWalk.{shownWalk}
 use Rattle.rules.specs.Table.{Table}
 use Rattle.runs.specs.Hints.{hintsFrom, hintsAt}
-use Rattle.entries.specs.Refusal.{entryRefusal}
 use Rattle.runs.specs.Promises.{freshRefusal, FreshPromise, runRefusal, lengthsOk, runAnswer, ran, setAfter, walkAfter, Answered, RunPromise}
 use Rattle.runs.specs.Said.{safe-with, reached-with, said}
 use Rattle.runs.specs.declared.Outcome.{Outcome}
@@ -29,13 +30,13 @@ use Rattle.runs.specs.declared.RunAnswer.{RunAnswer}
 use Rattle.sets.proofs.Range.{range-says}
 use Rattle.sets.proofs.Tests.{passed}
 use Rattle.sets.proofs.Words.{four-of, take-sets}
-use Rattle.sets.specs.Sets.{Set, quad, sizeRefusal}
-use Rattle.tables.specs.Control.{Control}
-use Rattle.listings.specs.Listing.{reachedListing, reachedWanted}
+use Rattle.sets.specs.Sets.{Set, quad}
+use Rattle.moves.specs.Models.{Control}
+use Rattle.listings.specs.Listing.{refusedListing, safeListing, reachedListing, reachedRefusal, reachedWanted}
 use Rattle.listings.specs.Said.{Lists}
 use Rattle.listings.specs.declared.Listed.{Listed}
 use Rattle.checks.specs.Check.{searched, verdictListing, tableListing}
-use Rattle.checks.specs.Steps.{Sought, answerWanted}
+use Rattle.checks.specs.Inner.{Sought, answerWanted}
 use Rattle.checks.proofs.Ends.{searched-ends, few-states}
 
 -- ---- what an answer says names it
@@ -51,6 +52,28 @@ is-reached (Reached k) m e = cc
 is-reached Unfinished m e = cc
 is-reached (Refused n) m e = cc
 
+-- ---- what each answer of a run lists
+module _ (c : Control) (rules : ℕ) (set : Set) (walk out out′ : List ℕ) (o : Outcome) (l : Listed) where
+  pub safe-lists : (j : ℕ) → o ≡ Safe j → Lists (given (safeListing (c .table) j rules set)) out l out′
+      → Lists (answerWanted c o rules set walk) out l out′
+  unfolding answerWanted
+  safe-lists j e p = rw e p
+
+  pub reached-lists : (m : ℕ) → o ≡ Reached m → Lists (reachedWanted c rules walk m) out l out′
+      → Lists (answerWanted c o rules set walk) out l out′
+  unfolding answerWanted
+  reached-lists m e p = rw e p
+
+  pub unfinished-lists : o ≡ Unfinished → Lists (given (refusedListing 0 0)) out l out′ → Lists (answerWanted c o rules set walk) out l out′
+  unfolding answerWanted
+  unfinished-lists e p = rw e p
+
+  pub refused-lists : (n : ℕ) → o ≡ Refused n → Lists (given (refusedListing n 0)) out l out′
+      → Lists (answerWanted c o rules set walk) out l out′
+  unfolding answerWanted
+  refused-lists n e p = rw e p
+
+-- ---- the run of the definition
 -- four words stand at place 0 of themselves
 quad-all : (x : List ℕ) → length x ≡ 4 → quad x 0 ≡ x
 unfolding quad
@@ -60,75 +83,73 @@ no-hints : hintsAt [] 0 ≡ []
 unfolding hintsFrom
 no-hints = refl
 
--- a fresh run buffer of the right length holds a fresh run
-held-is : (t : Table) (b b′ : List ℕ) (r : ℕ) → FreshPromise (t .size) b b′ r → length b ≡ 2066 → sizeRefusal (t .size) ≡ 0 → b′ ≡ encode (fresh t)
-unfolding freshRefusal
-held-is t b b′ r p len e = p .buffer ∙ rw (eq-eqb (length b) 2066 len, e)
-
-module _ {c : Control} (g : Sought c) where
+module _ (c : Control) (g : Sought c) where
   abbrev t : Table
   t = c .table
+
+  abbrev o : rules.Ran
+  o = searched t
+
+  abbrev walked : List ℕ
+  walked = shownWalk t (o .state)
 
   big : t .size ≤ 256
   big = passed (range-says (t .size)) (g .range) .1
 
-  size-taken : sizeRefusal (t .size) ≡ 0
-  unfolding sizeRefusal
-  size-taken = rw (g .range)
+  -- a fresh run buffer of the right length holds a fresh run
+  fresh-held : {b b′ : List ℕ} {r : ℕ} → FreshPromise (t .size) b b′ r → length b ≡ 2066 → b′ ≡ encode (fresh t)
+  unfolding freshRefusal firstFailing
+  fresh-held {b} p long = p .buffer ∙ rw (eq-eqb (length b) 2066 long, g .range)
 
-  -- a run from a fresh run buffer is not refused
-  not-refused : runRefusal t (encode (fresh t)) true ≡ 0
-  unfolding entryRefusal
-  not-refused =
-      rw (eq-eqb (length (encode (fresh t))) 2066 (encode-length (fresh t)), eq-eqb (length (t .rows)) 1024 (g .rows), g .range, g .sound, kept-accepts t big (fresh t) (fresh-inv t big) (fresh-normal t big))
+  -- a run from it is not refused
+  not-refused : (set walk : List ℕ) → length set ≡ 4 → length walk ≡ 256 → runRefusal t [] (encode (fresh t)) set walk ≡ 0
+  unfolding runRefusal lengthsOk firstFailing
+  not-refused set walk four long =
+      let buffer = eq-eqb (length (encode (fresh t))) 2066 (encode-length (fresh t)) in
+      let entry = kept-accepts t big (fresh t) (fresh-inv t big) (fresh-normal t big) in
+      rw (eq-eqb (length set) 4 four, eq-eqb (length walk) 256 long, buffer, eq-eqb (length (t .rows)) 1024 (g .rows), g .range, g .sound, entry)
 
   -- and is the run of the definition
-  same-run : (budget : ℕ) → budget ≡ bound (t .size) → run t budget (hintsAt [] 0) (decode (encode (fresh t))) ≡ searched t
-  same-run budget e = rw (e, no-hints, held-back t big (fresh t) (fresh-inv t big) (fresh-normal t big))
+  same-run : {budget : ℕ} → budget ≡ bound (t .size) → run t budget (hintsAt [] 0) (decode (encode (fresh t))) ≡ o
+  same-run e = rw (e, no-hints, held-back t big (fresh t) (fresh-inv t big) (fresh-normal t big))
 
-  module _ (moves : ℕ) (b b′ set set′ walk₀ walk′ : List ℕ) (r : RunAnswer) (p : Answered t 0 (searched t) b b′ set set′ walk₀ walk′ r) (four : length set′ ≡ 4) (long : length walk₀ ≡ 256) where
-    abbrev o : rules.Outcome
-    o = searched t
+  -- ---- its listing
+  -- the walk stands at the front of the numbers lent for it
+  shown-walk : (walk walk′ : List ℕ) (m : ℕ) → length walk ≡ 256 → o .standing ≡ reached → walk′ ≡ sets walk 0 walked
+      → m ≡ o .state .n - 1 → reachedWanted c (o .rules) walk′ m ≡ given (reachedListing c (o .rules) walked)
+  unfolding reachedWanted reachedRefusal firstFailing unlessRefused
+  shown-walk walk walk′ m long e w q =
+      let few = few-states t big e in
+      let n : m ≡ length walked = q ∙ sym (walk-length t big (o .state)) in
+      let d : length walk′ ≡ 256 = ap length w ∙ length-sets walk 0 walked ∙ long in
+      let front = take-sets walked walk (omega (arith, walk-length t big (o .state))) in
+      rw (eq-eqb (length walk′) 256 d, eq-eqb (length (c .angles)) 256 (g .angles), eq-eqb (length (c .modes)) 256 (g .modes))
+      (rw (le-leb m 256 (omega arith), n, w, front))
 
-    abbrev wanted : Outcome → ℕ → Answer (List ℕ)
-    wanted outcome fired = answerWanted (t .size) (t .starts) (t .safe) moves outcome fired (quad set′ 0) walk′ (c .angles) (c .modes)
-
-    -- the walk stands at the front of the numbers lent for it
-    shown : o .result ≡ reached → walk′ ≡ sets walk₀ 0 (walk t (o .state)) → (m : ℕ) → m ≡ o .state .n - 1
-        → reachedWanted (t .size) (t .starts) (t .safe) moves (o .rules) walk′ m (c .angles) (c .modes)
-        ≡ given (reachedListing (t .size) (t .starts) (t .safe) moves (o .rules) (walk t (o .state)) (c .angles) (c .modes))
-    unfolding reachedWanted
-    shown e w m q =
-        let l = few-states t big e in
-        let n : m ≡ length (walk t (o .state)) = q ∙ sym (walk-length t big (o .state)) in
-        let d : length walk′ ≡ 256 = ap length w ∙ length-sets walk₀ 0 (walk t (o .state)) ∙ long in
-        rw (eq-eqb (length walk′) 256 d, eq-eqb (length (c .angles)) 256 (g .angles), eq-eqb (length (c .modes)) 256 (g .modes), le-leb m 256 (omega arith), n, w, take-sets (walk t (o .state)) walk₀ (omega (arith, walk-length t big (o .state))))
-
-    listed : (x : Result) → o .result ≡ x → Ended x → said (r .outcome) ≡ runAnswer 0 x (o .state) → r .rules ≡ cond (ran 0 x) (o .rules) 0 → set′ ≡ setAfter 0 x (o .state) set
-        → walk′ ≡ walkAfter t 0 x (o .state) walk₀ → wanted (r .outcome) (r .rules) ≡ given (verdictListing c moves o x)
+  module _ (set set′ walk walk′ : List ℕ) (four : length set′ ≡ 4) (long : length walk ≡ 256) where
+    -- what is wanted for an answer of the run is its verdict's listing
+    wanted-by : (a : RunAnswer) (x : Standing) → o .standing ≡ x → Ended x → said (a .outcome) ≡ runAnswer 0 x (o .state)
+        → a .rules ≡ cond (ran 0 x) (o .rules) 0 → set′ ≡ setAfter 0 x (o .state) set → walk′ ≡ walkAfter t 0 x (o .state) walk
+        → answerWanted c (a .outcome) (a .rules) (quad set′ 0) walk′ ≡ given (verdictListing c o x)
     unfolding answerWanted verdictListing runAnswer ran setAfter walkAfter
-    listed x e (ended-safe j) a k s w = rw (is-safe (r .outcome) j a, k, quad-all set′ four, s)
-    listed x e ended-reached a k s w = rw (is-reached (r .outcome) _ a, k) (shown e w _ refl)
+    wanted-by a x e (ended-safe j) says k s w = rw (is-safe (a .outcome) j says, k, quad-all set′ four, s)
+    wanted-by a x e ended-reached says k s w = rw (is-reached (a .outcome) _ says, k) (shown-walk walk walk′ _ long e w refl)
 
-    pub wanted-is : wanted (r .outcome) (r .rules) ≡ given (tableListing c moves)
+    wanted-is : {b b′ : List ℕ} (a : RunAnswer) → Answered t 0 o b b′ set set′ walk walk′ a
+        → answerWanted c (a .outcome) (a .rules) (quad set′ 0) walk′ ≡ given (tableListing c)
     unfolding tableListing
-    wanted-is = listed (o .result) refl (searched-ends t big) (p .outcome) (p .rules) (p .set-is) (p .walk-is)
+    wanted-is a p = wanted-by a (o .standing) refl (searched-ends t big) (p .outcome) (p .rules) (p .set-is) (p .walk-is)
 
-  -- so a table's listing is that of what `run` answers from a fresh run buffer
-  module _ {held held₁ held₂ set set′ walk₀ walk′ : List ℕ} {x : Set} {number budget : ℕ} {r : RunAnswer}
-      (f : FreshPromise (t .size) held held₁ number) (e : budget ≡ bound (t .size)) (p : RunPromise t [] budget held₁ held₂ set set′ walk₀ walk′ r) (read : x ≡ quad set′ 0)
-      (buffer : length held ≡ 2066) (four : length set ≡ 4) (four′ : length set′ ≡ 4) (long : length walk₀ ≡ 256) where
-    lent : lengthsOk [] set walk₀ ≡ true
-    unfolding lengthsOk
-    lent = rw (eq-eqb (length set) 4 four, eq-eqb (length walk₀) 256 long)
-
-    answered : Answered t 0 (searched t) held₁ held₂ set set′ walk₀ walk′ r
-    answered =
-        let h : held₁ ≡ encode (fresh t) = held-is t held held₁ number f buffer size-taken in
-        let q : runRefusal t held₁ (lengthsOk [] set walk₀) ≡ 0 = rw (h, lent) not-refused in
-        let s : run t budget (hintsAt [] 0) (decode held₁) ≡ searched t = rw h (same-run budget e) in
-        rw (q, s) at p
-
-    pub searched-lists : (moves : ℕ) {out out′ : List ℕ} {l : Listed}
-        → Lists (answerWanted (t .size) (t .starts) (t .safe) moves (r .outcome) (r .rules) x walk′ (c .angles) (c .modes)) out l out′ → Lists (given (tableListing c moves)) out l out′
-    searched-lists moves w = rw (read, wanted-is moves held₁ held₂ set set′ walk₀ walk′ r answered four′ long) at w
+-- so a table's listing is that of what `run` answers from a fresh run buffer: b is the buffer, b₁ fresh, b₂ after the run
+pub searched-lists :
+    {c : Control} {b b₁ b₂ set set′ walk walk′ out out′ : List ℕ} {x : Set} {number budget : ℕ} {a : RunAnswer} {l : Listed} → Sought c
+    → FreshPromise (c .table .size) b b₁ number → budget ≡ bound (c .table .size)
+    → RunPromise (c .table) [] budget b₁ b₂ set set′ walk walk′ a → x ≡ quad set′ 0
+    → Lists (answerWanted c (a .outcome) (a .rules) x walk′) out l out′
+    → length b ≡ 2066 → length set ≡ 4 → length set′ ≡ 4 → length walk ≡ 256 → Lists (given (tableListing c)) out l out′
+searched-lists {c} {b} {b₁} {b₂} {set} {set′} {walk} {walk′} {x = x} {budget = budget} {a = a} g f e p read w buffer four four′ long =
+    let fresh-run : b₁ ≡ encode (fresh (c .table)) = fresh-held c g f buffer in
+    let taken : runRefusal (c .table) [] b₁ set walk ≡ 0 = rw fresh-run (not-refused c g set walk four long) in
+    let same : run (c .table) budget (hintsAt [] 0) (decode b₁) ≡ searched (c .table) = rw fresh-run (same-run c g e) in
+    let answered : Answered (c .table) 0 (searched (c .table)) b₁ b₂ set set′ walk walk′ a = rw (taken, same) at p in
+    rw (read, wanted-is c g set set′ walk walk′ four′ long a answered) at w

@@ -1,2 +1,4 @@
+pub mod File
 pub mod Check
-pub mod Steps
+pub mod Inner
+pub mod Tried

@@ -1,11 +1,11 @@
 -- What a run may rely on after a refusal of 0.
 use Prim.Native.Nat.{ℕ, _≤_}
 use native.Mathlib.Omega.{arith}
-use mathlib.Core.Bool.{Bool, true, false, cond, _&&_}
+use mathlib.Core.Bool.{true}
 use mathlib.Core.List.{List}
-use mathlib.Core.Path.{_≡_, refl, sym}
-use lib.Dec.{eqb}
+use mathlib.Core.Path.{_≡_}
 use lib.ListN.{length}
+use Rattle.answers.proofs.Order.{none-failing}
 use Rattle.answers.proofs.Unique.{only}
 use Rattle.entries.specs.Refusal.{entryRefusal}
 use Rattle.rules.proofs.Held.{fit-by}
@@ -13,8 +13,8 @@ use Rattle.rules.proofs.Ready.{Words64, Ready, good-by, ready-by}
 use Rattle.rules.specs.Buffer.{entryCheck}
 use Rattle.rules.specs.Table.{Table, soundTable}
 use Rattle.sets.proofs.Range.{range-says}
-use Rattle.sets.proofs.Tests.{passed, eqb-says, and-true}
-use Rattle.sets.specs.Sets.{Proper, inRange}
+use Rattle.sets.proofs.Tests.{passed, eqb-says}
+use Rattle.sets.specs.Sets.{Proper}
 
 -- what was tested
 pub record Entered (t : Table) (b : List ℕ) : Type 0 where
@@ -26,23 +26,19 @@ pub record Entered (t : Table) (b : List ℕ) : Type 0 where
 
 pub entered : (t : Table) (b : List ℕ) → entryRefusal t b ≡ 0 → Entered t b
 unfolding entryRefusal
-entered t b e = go (eqb (length b) 2066 && eqb (length (t .rows)) 1024) (inRange (t .size)) (soundTable t) (entryCheck t b) refl refl refl refl e
-  where
-    go : (l r s c : Bool) → eqb (length b) 2066 && eqb (length (t .rows)) 1024 ≡ l → inRange (t .size) ≡ r → soundTable t ≡ s → entryCheck t b ≡ c
-        → _≡_ {A = ℕ} (cond l (cond r (cond s (cond c 0 8) 13) 2) 7) 0 → Entered t b
-    go true true true true el er es ec q =
-        let (h, k) = and-true _ _ el in
-        record {
-          long = passed (eqb-says _ _) h;
-          rows = passed (eqb-says _ _) k;
-          big = passed (range-says (t .size)) er .1;
-          sound = es;
-          entry = ec;
-        }
-    go false r s c el er es ec q = absurd (omega arith)
-    go true false s c el er es ec q = absurd (omega arith)
-    go true true false c el er es ec q = absurd (omega arith)
-    go true true true false el er es ec q = absurd (omega arith)
+entered t b e =
+    let (long, e₁) = none-failing _ _ _ (λ q. omega arith) e in
+    let (rows, e₂) = none-failing _ _ _ (λ q. omega arith) e₁ in
+    let (range, e₃) = none-failing _ _ _ (λ q. omega arith) e₂ in
+    let (sound, e₄) = none-failing _ _ _ (λ q. omega arith) e₃ in
+    let (entry, _) = none-failing _ _ _ (λ q. omega arith) e₄ in
+    record {
+      long = passed (eqb-says _ _) long;
+      rows = passed (eqb-says _ _) rows;
+      big = passed (range-says (t .size)) range .1;
+      sound = sound;
+      entry = entry;
+    }
 
 -- the buffer and the two sets are words, as what code is lent always is
 pub enters : (t : Table) (b : List ℕ) → Words64 b → Proper 256 (t .starts) → Proper 256 (t .safe) → entryRefusal t b ≡ 0 → Ready t b

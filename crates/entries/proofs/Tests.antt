@@ -4,23 +4,20 @@
 -- the test answered, and `x ≡ quad b at` for a set that was read. So a proof cites the law, and `search` finds the premises.
 use Prim.Native.Nat.{ℕ, suc, _+_, _-_, _*_, _≤_, _<_}
 use native.Mathlib.Omega.{arith}
-use mathlib.Core.Bool.{Bool, true, false, not, _&&_, cond}
+use mathlib.Core.Bool.{Bool, true, false, not, _&&_, and-false}
 use mathlib.Core.List.{List, [], _∷_}
-use mathlib.Core.Logic.{inl, inr}
 use mathlib.Core.Path.{_≡_, refl, sym, ap, _∙_}
-use borrow.Author.Tests.{eq-eqb, ne-eqb}
-use lib.Dec.{leb, ltb}
+use borrow.Author.Tests.{lt-ltb, le-ltb, lt-leb}
+use lib.Dec.{leb}
 use lib.ListN.{length, getD}
-use Rattle.entries.specs.Refusal.{entryRefusal}
 use Rattle.moves.proofs.Rows.{forward-is, backward-is}
 use Rattle.moves.specs.Wide.{forward256, backward256}
 use Rattle.rules.proofs.Entry.{true-held, held-is, leb-true, leb-false, ranges-say}
-use Rattle.rules.proofs.Held.{held-by, tests}
+use Rattle.rules.proofs.Held.{held-by}
 use Rattle.rules.proofs.Reading.{x-is, y-is, n-is, k-is, parts-256, proper-forward, proper-backward}
 use Rattle.rules.proofs.Ready.{Words64, Good, Spans, Shaped}
-use Rattle.rules.specs.Buffer.{decode, each, held, keptX, keptY, rises, falls, parts, apart, topped, ranges, entryCheck, Normal}
-use Rattle.rules.specs.Table.{Table, f, g, soundTable}
-use Rattle.sets.proofs.Range.{in-range, out-of-range}
+use Rattle.rules.specs.Buffer.{decode, each, held, clearX, clearY, unused, soundX, soundY, rises, falls, parts, topped, ranges, entryTests, entryCheck, Normal}
+use Rattle.rules.specs.Table.{Table, f, g}
 use Rattle.sets.proofs.Tests.{not-true, not-false}
 use Rattle.sets.proofs.Within.{within-256}
 use Rattle.sets.specs.Sets.{Set, empty, within, sound, quad, Proper}
@@ -52,14 +49,44 @@ module _ (n N k : ℕ) where
   range-4 a b d = rw (leb-true a, leb-true b, leb-true d) (and-same _)
 
 -- ---- words not in use
-module _ (N : ℕ) (b : List ℕ) (j : ℕ) (z : Set) (u r : Bool) where
-  pub kept-x-at : z ≡ quad b (2 + 4 * j) → u ≡ ltb j (getD b 0 0) → r ≡ sound (cond u N 0) z → r ≡ keptX N b j
-  unfolding keptX
-  kept-x-at ez eu e = rw (ez, eu) at e
+module _ (b : List ℕ) (j : ℕ) where
+  pub clear-x-held : j < getD b 0 0 → clearX b j ≡ true
+  unfolding clearX
+  clear-x-held l = rw (lt-ltb j (getD b 0 0) l)
 
-  pub kept-y-at : z ≡ quad b (1034 + 4 * j) → u ≡ (leb (getD b 1 0) j && ltb j (getD b 0 0)) → r ≡ sound (cond u N 0) z → r ≡ keptY N b j
-  unfolding keptY
-  kept-y-at ez eu e = rw (ez, eu) at e
+  pub clear-y-held : getD b 1 0 ≤ j → j < getD b 0 0 → true ≡ clearY b j
+  unfolding clearY
+  clear-y-held h l = rw (leb-true h, lt-ltb j (getD b 0 0) l)
+
+  module _ (z : Set) (r : Bool) (e : r ≡ sound 0 z) where
+    pub clear-x-at : z ≡ quad b (2 + 4 * j) → getD b 0 0 ≤ j → r ≡ clearX b j
+    unfolding clearX
+    clear-x-at q l = e ∙ rw (q, le-ltb j (getD b 0 0) l)
+
+    pub clear-y-past : z ≡ quad b (1034 + 4 * j) → getD b 0 0 ≤ j → r ≡ clearY b j
+    unfolding clearY
+    clear-y-past q l = e ∙ rw (q, le-ltb j (getD b 0 0) l, and-false)
+
+    pub clear-y-low : z ≡ quad b (1034 + 4 * j) → j < getD b 1 0 → r ≡ clearY b j
+    unfolding clearY
+    clear-y-low q l = e ∙ rw (q, lt-leb (getD b 1 0) j l)
+
+pub unused-by : (b : List ℕ) (r : Bool) → r ≡ each (all 258 (clearX b) ∷ all 258 (clearY b) ∷ []) → r ≡ unused b
+unfolding unused
+unused-by b r e = e
+
+-- ---- members from N up
+module _ (N : ℕ) (b : List ℕ) (j : ℕ) where
+  pub sound-x-at : (z : Set) (r : Bool) → z ≡ quad b (2 + 4 * j) → j < getD b 0 0 → r ≡ sound N z → r ≡ sound N ((decode b) .x j)
+  sound-x-at z r q l e = e ∙ ap (sound N) (q ∙ x-is b j _ refl l)
+
+  pub sound-y-at : (z : Set) (r : Bool) → z ≡ quad b (1034 + 4 * j) → getD b 1 0 ≤ j → j < getD b 0 0 → r ≡ sound N z
+      → r ≡ held ((decode b) .k) j (sound N ((decode b) .y j))
+  sound-y-at z r q h l e = e ∙ ap (sound N) (q ∙ y-is b j _ refl h l) ∙ sym (held-is _ _ _ (rw (← (k-is b)) h))
+
+  pub sound-y-low : j < getD b 1 0 → held ((decode b) .k) j (sound N ((decode b) .y j)) ≡ true
+  unfolding decode
+  sound-y-low l = true-held _ _ _ (λ h. absurd (omega arith))
 
 -- ---- the order of the sets
 module _ (b : List ℕ) where
@@ -160,62 +187,33 @@ module _ (N : ℕ) (b : List ℕ) (r : Bool) where
   pub topped-is : (P : Set) → N ≤ 256 → Proper N P → r ≡ topped 256 P (decode b) → r ≡ topped N P (decode b)
   topped-is P big h e = e ∙ ap (held _ _) (within-256 N big _ _ h)
 
-  pub apart-is : N ≤ 256 → Normal N (decode b) → r ≡ apart 256 (decode b) → r ≡ apart N (decode b)
-  apart-is big m e = e ∙ ap (all _) (parts-256 N big (decode b) m)
+  pub parts-are : N ≤ 256 → Normal N (decode b) → r ≡ all ((decode b) .n) (parts 256 (decode b)) → r ≡ all ((decode b) .n) (parts N (decode b))
+  parts-are big m e = e ∙ ap (all _) (parts-256 N big (decode b) m)
 
 -- ---- the whole check
-pub ranges-are : (N : ℕ) (b : List ℕ) (r : Bool) → r ≡ each
-    (leb 2 (getD b 0 0) ∷ leb (getD b 0 0) (N + 2) ∷ leb 1 (getD b 1 0) ∷ leb (getD b 1 0) (getD b 0 0) ∷ [])
-    → r ≡ ranges N (decode b)
-unfolding decode ranges
-ranges-are N b r e = e
+module _ (N : ℕ) (b : List ℕ) (r : Bool)
+    (e : r ≡ each (leb 2 (getD b 0 0) ∷ leb (getD b 0 0) (N + 2) ∷ leb 1 (getD b 1 0) ∷ leb (getD b 1 0) (getD b 0 0) ∷ [])) where
+  pub ranges-are : r ≡ ranges N (decode b)
+  unfolding decode ranges
+  ranges-are = e
 
-pub entry-by : (t : Table) (b : List ℕ) (r : Bool) → r ≡ each (tests t b) → r ≡ entryCheck t b
+  pub spans-by : not r ≡ false → length b ≡ 2066 → N ≤ 256 → Spans b
+  unfolding decode
+  spans-by not-no long big =
+      let (two, cap, pos, le) = ranges-say N (decode b) (sym ranges-are ∙ not-false r not-no) in
+      record { long = long; two = two; room = omega arith; pos = pos; le = le }
+
+pub entry-by : (t : Table) (b : List ℕ) (r : Bool) → r ≡ each (entryTests t b (decode b)) → r ≡ entryCheck t b
 unfolding entryCheck
 entry-by t b r e = e
 
-pub shaped-by : (t : Table) (b : List ℕ) → Words64 b → (r₁ r₂ r₃ : Bool) → Good t → length b ≡ 2066
-    → r₁ ≡ all 258 (keptX (t .size) b) → not r₁ ≡ false → r₂ ≡ all 258 (keptY (t .size) b) → not r₂ ≡ false
-    → r₃ ≡ each (leb 2 (getD b 0 0) ∷ leb (getD b 0 0) (t .size + 2) ∷ leb 1 (getD b 1 0) ∷ leb (getD b 1 0) (getD b 0 0) ∷ []) → not r₃ ≡ false
-    → Shaped t b
+pub shaped-by : (t : Table) (b : List ℕ) → Words64 b → (r₁ r₂ r₃ : Bool) → Good t → Spans b
+    → r₁ ≡ unused b → not r₁ ≡ false → r₂ ≡ soundX (t .size) (decode b) ((decode b) .n) → not r₂ ≡ false
+    → r₃ ≡ soundY (t .size) (decode b) → not r₃ ≡ false → Shaped t b
 unfolding decode
-shaped-by t b words r₁ r₂ r₃ good long e₁ n₁ e₂ n₂ e₃ n₃ =
-    let r = ranges-say t (decode b) (sym (ranges-are (t .size) b r₃ e₃) ∙ not-false r₃ n₃) in
-    let cap : getD b 0 0 ≤ 258 = omega (arith, r .1, good .big) in
-    let h = held-by t (good .big) b long words (sym e₁ ∙ not-false r₁ n₁) (sym e₂ ∙ not-false r₂ n₂) cap in
-    record { spans = record { long = long; two = r .0; room = cap; pos = r .2; le = r .3 }; good = good; norm = h .norm }
-
--- ---- the refusal, in its order
-module _ (t : Table) (b : List ℕ) where
-  pub refuses-buffer : (length b ≡ 2066 → ⊥) → 7 ≡ entryRefusal t b
-  unfolding entryRefusal
-  refuses-buffer n = rw (ne-eqb _ _ n)
-
-  module _ (e : length b ≡ 2066) where
-    pub refuses-rows : (length (t .rows) ≡ 1024 → ⊥) → 7 ≡ entryRefusal t b
-    unfolding entryRefusal
-    refuses-rows n = rw (eq-eqb _ _ e, ne-eqb _ _ n)
-
-    module _ (e₂ : length (t .rows) ≡ 1024) where
-      pub refuses-low : t .size < 1 → 2 ≡ entryRefusal t b
-      unfolding entryRefusal
-      refuses-low l = rw (eq-eqb _ _ e, eq-eqb _ _ e₂, out-of-range (t .size) (inl (omega arith)))
-
-      pub refuses-high : 256 < t .size → 2 ≡ entryRefusal t b
-      unfolding entryRefusal
-      refuses-high l = rw (eq-eqb _ _ e, eq-eqb _ _ e₂, out-of-range (t .size) (inr l))
-
-      module _ (low : 1 ≤ t .size) (high : t .size ≤ 256) (r : Bool) (e₃ : r ≡ soundTable t) where
-        pub refuses-unsound : not r ≡ true → 13 ≡ entryRefusal t b
-        unfolding entryRefusal
-        refuses-unsound n = rw (eq-eqb _ _ e, eq-eqb _ _ e₂, in-range (t .size) low high, sym e₃ ∙ not-true r n)
-
-        module _ (sound : not r ≡ false) where
-          module _ (r₂ : Bool) (e₄ : r₂ ≡ entryCheck t b) where
-            pub refuses-entry : not r₂ ≡ true → 8 ≡ entryRefusal t b
-            unfolding entryRefusal
-            refuses-entry n = rw (eq-eqb _ _ e, eq-eqb _ _ e₂, in-range (t .size) low high, sym e₃ ∙ not-false r sound, sym e₄ ∙ not-true r₂ n)
-
-            pub accepts : not r₂ ≡ false → 0 ≡ entryRefusal t b
-            unfolding entryRefusal
-            accepts n = rw (eq-eqb _ _ e, eq-eqb _ _ e₂, in-range (t .size) low high, sym e₃ ∙ not-false r sound, sym e₄ ∙ not-false r₂ n)
+shaped-by t b words r₁ r₂ r₃ good spans e₁ n₁ e₂ n₂ e₃ n₃ =
+    let passed₁ = sym e₁ ∙ not-false r₁ n₁ in
+    let passed₂ = sym e₂ ∙ not-false r₂ n₂ in
+    let passed₃ = sym e₃ ∙ not-false r₃ n₃ in
+    let h = held-by t (good .big) b (spans .long) words passed₁ passed₂ passed₃ (spans .room) in
+    record { spans = spans; good = good; norm = h .norm }

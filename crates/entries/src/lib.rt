@@ -18,17 +18,22 @@ fn passes(moves: &[u64], model: Model, buf: &[u64]) -> bool
     requires { ⌜ (length (now buf) ≡ 2066) × Good (on model (now moves)) ⌝ }
     ensures { λ r. ⌜ r ≡ entryCheck (on model (now (moves .entry))) (now (buf .entry)) ⌝ }
 {
-    let size = model.size;
-    if !places::kept_x(size, buf) {
+    if !places::in_range(model.size, buf[0], buf[1]) {
         return false;
     }
-    if !places::kept_y(size, buf) {
+    if !places::unused(buf) {
         return false;
     }
-    if !places::in_range(size, buf[0], buf[1]) {
+    if !places::sound_x(model.size, buf) {
         return false;
     }
-    order::ordered(moves, model, buf)
+    if !places::sound_y(model.size, buf) {
+        return false;
+    }
+    if !order::chain(moves, model, buf) {
+        return false;
+    }
+    order::obstacles(moves, model, buf)
 }
 
 // The refusal of a table and a run buffer: 7, 2, 13, 8 in that order, or 0.
@@ -41,11 +46,7 @@ pub fn refusal(moves: &[u64], model: Model, buf: &[u64]) -> u8
     if moves.len() != 1024 {
         return answers::WRONG_LENGTH;
     }
-    let size = model.size;
-    if size < 1 {
-        return answers::OUT_OF_RANGE;
-    }
-    if 256 < size {
+    if !sets::in_range(model.size) {
         return answers::OUT_OF_RANGE;
     }
     if !moves::sound_table(moves, model) {

@@ -4,10 +4,11 @@
 use moves::Model;
 use sets::StateSet;
 ghost use mathlib.Core.Path.{_≡_};
-ghost use Prim.Native.Nat.{_+_, _<_};
+ghost use Prim.Native.Nat.{_+_, _-_, _<_};
 ghost use lib.ListN.{getD};
 ghost use Rattle.moves.specs.Models.{on};
-ghost use Rattle.rules.specs.Buffer.{each, rises, falls, parts, rising, falling, apart, topped, orders, decode};
+ghost use Rattle.sets.specs.Search.{all};
+ghost use Rattle.rules.specs.Buffer.{decode, rises, falls, parts, topped, chain, obstacles};
 ghost use Rattle.rules.proofs.Ready.{Spans, Shaped};
 
 // Whether x_j, I and f(x_j) are within x_(j+1).
@@ -55,7 +56,7 @@ fn parts_at(buf: &[u64], j: usize) -> bool
 // Whether the chain rises all the way.
 fn rises(moves: &[u64], model: Model, buf: &[u64]) -> bool
     requires { ⌜ Shaped (on model (now moves)) (now buf) ⌝ }
-    ensures { λ r. ⌜ r ≡ rising (on model (now (moves .entry))) (decode (now (buf .entry))) ⌝ }
+    ensures { λ r. ⌜ r ≡ all ((decode (now (buf .entry))) .n - 1) (rises (on model (now (moves .entry))) (decode (now (buf .entry)))) ⌝ }
 {
     let m = (buf[0] - 1) as usize;
     for j in 0..m {
@@ -69,7 +70,7 @@ fn rises(moves: &[u64], model: Model, buf: &[u64]) -> bool
 // Whether each held y falls to the one before.
 fn falls(moves: &[u64], model: Model, buf: &[u64]) -> bool
     requires { ⌜ Shaped (on model (now moves)) (now buf) ⌝ }
-    ensures { λ r. ⌜ r ≡ falling (on model (now (moves .entry))) (decode (now (buf .entry))) ⌝ }
+    ensures { λ r. ⌜ r ≡ all ((decode (now (buf .entry))) .n - 1) (falls (on model (now (moves .entry))) (decode (now (buf .entry)))) ⌝ }
 {
     let m = (buf[0] - 1) as usize;
     for j in 0..m {
@@ -83,7 +84,7 @@ fn falls(moves: &[u64], model: Model, buf: &[u64]) -> bool
 // Whether no x is within its held y.
 fn parts(buf: &[u64]) -> bool
     requires { ⌜ Spans (now buf) ⌝ }
-    ensures { λ r. ⌜ r ≡ apart 256 (decode (now (buf .entry))) ⌝ }
+    ensures { λ r. ⌜ r ≡ all ((decode (now (buf .entry))) .n) (parts 256 (decode (now (buf .entry)))) ⌝ }
 {
     let m = buf[0] as usize;
     for j in 0..m {
@@ -106,10 +107,10 @@ fn topped(safe: StateSet, buf: &[u64]) -> bool
     safe.within(StateSet::read(buf, 1034 + 4 * ((n - 1) as usize)))
 }
 
-// The conditions that are left once n and k are in range and the words in place.
-pub fn ordered(moves: &[u64], model: Model, buf: &[u64]) -> bool
+// The conditions on x: x_0 is empty, the chain rises, x_(n-2) is within P.
+pub fn chain(moves: &[u64], model: Model, buf: &[u64]) -> bool
     requires { ⌜ Shaped (on model (now moves)) (now buf) ⌝ }
-    ensures { λ r. ⌜ r ≡ each (orders (on model (now (moves .entry))) (decode (now (buf .entry)))) ⌝ }
+    ensures { λ r. ⌜ r ≡ chain (on model (now (moves .entry))) (decode (now (buf .entry))) ((decode (now (buf .entry))) .n) ⌝ }
 {
     if !StateSet::read(buf, 2).within(StateSet::EMPTY) {
         return false;
@@ -118,9 +119,14 @@ pub fn ordered(moves: &[u64], model: Model, buf: &[u64]) -> bool
         return false;
     }
     let m = (buf[0] - 2) as usize;
-    if !StateSet::read(buf, 2 + 4 * m).within(model.safe) {
-        return false;
-    }
+    StateSet::read(buf, 2 + 4 * m).within(model.safe)
+}
+
+// The conditions on y: y_(n-1) contains P, each y falls to the one before, no x is within its y.
+pub fn obstacles(moves: &[u64], model: Model, buf: &[u64]) -> bool
+    requires { ⌜ Shaped (on model (now moves)) (now buf) ⌝ }
+    ensures { λ r. ⌜ r ≡ obstacles (on model (now (moves .entry))) (decode (now (buf .entry))) ⌝ }
+{
     if !topped(model.safe, buf) {
         return false;
     }

@@ -9,7 +9,7 @@ use Rattle.sets.specs.Sets.{Set, count, smallest}
 use Rattle.rules.specs.Table.{Table}
 use Rattle.runs.specs.Promises.{FreshPromise}
 use Rattle.runs.proofs.Unique as runs
-use Rattle.tables.specs.Control.{Control}
+use Rattle.moves.specs.Models.{Control}
 use Rattle.tables.proofs.Unique as tables
 use Rattle.lampferret.specs.Boundary.{kept, number, Gives, answerWords, SetGiven, SingleGiven, RunGiven, ReadGiven, WriteGiven, ListGiven}
 
@@ -48,7 +48,8 @@ module _ (file rows : List ℕ) (angles : List ℤ) (modes starts safe counts : 
     {modes₁ modes₂ starts₁ starts₂ safe₁ safe₂ counts₁ counts₂ : List ℕ} {offset₁ offset₂ r₁ r₂ : ℕ}
     (p : ReadGiven file rows rows₁ angles angles₁ modes modes₁ starts starts₁ safe safe₁ counts counts₁ offset₁ r₁)
     (q : ReadGiven file rows rows₂ angles angles₂ modes modes₂ starts starts₂ safe safe₂ counts counts₂ offset₂ r₂) where
-  pub read-once : (r₁ ≡ r₂) × (rows₁ ≡ rows₂) × (angles₁ ≡ angles₂) × (modes₁ ≡ modes₂) × (starts₁ ≡ starts₂) × (safe₁ ≡ safe₂) × (counts₁ ≡ counts₂) × (offset₁ ≡ offset₂)
+  pub read-once : (r₁ ≡ r₂) × (rows₁ ≡ rows₂) × (angles₁ ≡ angles₂) × (modes₁ ≡ modes₂) × (starts₁ ≡ starts₂) × (safe₁ ≡ safe₂) × (counts₁ ≡ counts₂)
+      × (offset₁ ≡ offset₂)
   read-once =
       let o = tables.read-once file rows angles modes (p .promised) (q .promised) in
       let a : p .reading ≡ q .reading = o .0 in
@@ -57,9 +58,9 @@ module _ (file rows : List ℕ) (angles : List ℤ) (modes starts safe counts : 
         o .1,
         o .2,
         o .3,
-        p .starts-are ∙ (λ i. kept (r i) (a i .starts .words) starts) ∙ sym (q .starts-are),
-        p .safe-are ∙ (λ i. kept (r i) (a i .safe .words) safe) ∙ sym (q .safe-are),
-        p .counts-are ∙ (λ i. kept (r i) (a i .n ∷ a i .moves ∷ []) counts) ∙ sym (q .counts-are),
+        p .starts-are ∙ (λ i. kept (r i) (a i .model .starts .words) starts) ∙ sym (q .starts-are),
+        p .safe-are ∙ (λ i. kept (r i) (a i .model .safe .words) safe) ∙ sym (q .safe-are),
+        p .counts-are ∙ (λ i. kept (r i) (a i .model .size ∷ a i .moves ∷ []) counts) ∙ sym (q .counts-are),
         p .offset-is ∙ (λ i. a i .offset) ∙ sym (q .offset-is),
       )
 

@@ -1,6 +1,5 @@
 -- What the calls for C and Rust promise: the refusal's number, 0 for none, and what each lent place holds then.
 use Prim.Native.Nat.{ℕ, zero, suc}
-use mathlib.Core.Bool.{true}
 use mathlib.Core.List.{List, [], _∷_}
 use mathlib.Core.Option.{Option, none, some}
 use mathlib.Core.Path.{_≡_}
@@ -14,10 +13,13 @@ use Rattle.rules.specs.Rules.{Rule, Unfold, Candidate, Decide, Conflict}
 use Rattle.rules.specs.Single.{single}
 use Rattle.rules.specs.Buffer.{decode}
 use Rattle.runs.specs.declared.RunAnswer.{RunAnswer}
-use Rattle.runs.specs.Said.{Shown, safe-with, reached-with, not-ended, said}
-use Rattle.runs.specs.Promises.{RunPromise, runRefusal, singleAnswer, singleBuffer}
+use Rattle.runs.specs.Said.{Outcome, safe-with, reached-with, not-ended, said}
+use Rattle.entries.specs.Refusal.{entryRefusal}
+use Rattle.runs.specs.Promises.{RunPromise, singleAnswer, singleBuffer}
 use Rattle.tables.specs.declared.Reading.{Reading}
-use Rattle.tables.specs.Control.{Control, writing}
+use Rattle.moves.specs.Models.{Control}
+use Rattle.moves.specs.declared.Model.{Model}
+use Rattle.tables.specs.Control.{writing}
 use Rattle.tables.specs.Said.{Read, lengthOf, putIn}
 use Rattle.listings.specs.Said.{answered, written}
 
@@ -25,6 +27,12 @@ use Rattle.listings.specs.Said.{answered, written}
 abbrev pub number : Option ℕ → ℕ
 number none = 256
 number (some s) = s
+
+-- a model of N states with the sets I and P
+pub record IsModel (N : ℕ) (I P : Set) (m : Model) : Type 0 where
+  pub size : m .size ≡ N
+  pub starts : m .starts .words ≡ I
+  pub safe : m .safe .words ≡ P
 
 -- what a lent place holds after a refusal's number: the new words for 0, else what it held
 abbrev pub kept : {A : Type 0} → ℕ → A → A → A
@@ -63,17 +71,17 @@ inWords h (refused k) = refused k
 inWords h (given a) = given (h a)
 
 pub record SingleGiven (t : Table) (z : Set) (b b′ : List ℕ) (old new r : ℕ) : Type 0 where
-  pub answer : Gives (inWords ruleNumber (singleAnswer (runRefusal t b true) (single t (decode b) z))) old new r
-  pub buffer : b′ ≡ singleBuffer (runRefusal t b true) (single t (decode b) z) b
+  pub answer : Gives (inWords ruleNumber (singleAnswer (entryRefusal t b) (single t (decode b) z))) old new r
+  pub buffer : b′ ≡ singleBuffer (entryRefusal t b) (single t (decode b) z) b
 
 -- ---- a run: 0 unfinished, 1 safe with j, 2 reached with the number of states; rules fired, hints taken, hints used
-unfoldable pub shownWords : Shown → ℕ → ℕ → ℕ → List ℕ
-shownWords not-ended rules taken used = 0 ∷ 0 ∷ rules ∷ taken ∷ used ∷ []
-shownWords (safe-with j) rules taken used = 1 ∷ j ∷ rules ∷ taken ∷ used ∷ []
-shownWords (reached-with states) rules taken used = 2 ∷ states ∷ rules ∷ taken ∷ used ∷ []
+unfoldable pub outcomeWords : Outcome → ℕ → ℕ → ℕ → List ℕ
+outcomeWords not-ended rules taken used = 0 ∷ 0 ∷ rules ∷ taken ∷ used ∷ []
+outcomeWords (safe-with j) rules taken used = 1 ∷ j ∷ rules ∷ taken ∷ used ∷ []
+outcomeWords (reached-with states) rules taken used = 2 ∷ states ∷ rules ∷ taken ∷ used ∷ []
 
 abbrev pub answerWords : RunAnswer → Answer (List ℕ)
-answerWords a = inWords (λ s. shownWords s (a .rules) (a .taken) (a .used)) (said (a .outcome))
+answerWords a = inWords (λ s. outcomeWords s (a .rules) (a .taken) (a .used)) (said (a .outcome))
 
 -- what `runs::run` answers, in words
 pub record RunGiven (t : Table) (hints : List ℕ) (budget : ℕ) (b b′ set set′ walk walk′ old new : List ℕ) (r : ℕ) : Type 0 where
@@ -82,13 +90,14 @@ pub record RunGiven (t : Table) (hints : List ℕ) (budget : ℕ) (b b′ set se
   pub answer : Gives (answerWords run) old new r
 
 -- ---- what `tables::read` answers, in words
-pub record ReadGiven (file rows rows′ : List ℕ) (angles angles′ : List ℤ) (modes modes′ starts starts′ safe safe′ counts counts′ : List ℕ) (offset′ r : ℕ) : Type 0 where
+pub record ReadGiven (file rows rows′ : List ℕ) (angles angles′ : List ℤ) (modes modes′ starts starts′ safe safe′ counts counts′ : List ℕ)
+    (offset′ r : ℕ) : Type 0 where
   pub reading : Reading
   pub promised : Read file rows angles modes reading rows′ angles′ modes′
   pub answer : r ≡ reading .refusal
-  pub starts-are : starts′ ≡ kept r (reading .starts .words) starts
-  pub safe-are : safe′ ≡ kept r (reading .safe .words) safe
-  pub counts-are : counts′ ≡ kept r (reading .n ∷ reading .moves ∷ []) counts
+  pub starts-are : starts′ ≡ kept r (reading .model .starts .words) starts
+  pub safe-are : safe′ ≡ kept r (reading .model .safe .words) safe
+  pub counts-are : counts′ ≡ kept r (reading .model .size ∷ reading .moves ∷ []) counts
   pub offset-is : offset′ ≡ reading .offset
 
 -- ---- a file's length

@@ -8,16 +8,17 @@ ghost use Rattle.answers.specs.Answer.{given};
 ghost use Rattle.sets.specs.Sets.{count, smallest, full, sizeRefusal};
 ghost use Rattle.turns.specs.Turn.{turnOf};
 ghost use Rattle.rules.specs.Table.{table, forward as f, backward as g};
+ghost use Rattle.moves.specs.Models.{control};
 ghost use Rattle.moves.specs.Said.{moveRefusal};
 ghost use Rattle.runs.specs.Promises.{FreshPromise};
-ghost use Rattle.tables.specs.Control.{controlFrom};
 ghost use Rattle.checks.specs.Check.{checkListing};
 ghost use Rattle.sets.specs.Said.{said};
 ghost use Rattle.turns.specs.Said.{said as saidTurn};
 ghost use Rattle.runs.specs.Said.{asRule, saidOne};
 ghost use Rattle.tables.specs.Said.{saidWritten};
 ghost use Rattle.listings.specs.Said.{said as saidListed};
-ghost use Rattle.lampferret.specs.Boundary.{kept, number, inWords, ruleNumber, answerWords, Gives, SetGiven, SingleGiven, RunGiven, ReadGiven, WriteGiven, ListGiven};
+ghost use Rattle.lampferret.specs.Boundary.{kept, number, inWords, ruleNumber, answerWords, Gives, SetGiven};
+ghost use Rattle.lampferret.specs.Boundary.{IsModel, SingleGiven, RunGiven, ReadGiven, WriteGiven, ListGiven};
 use listings::Listed;
 use moves::Model;
 use runs::Asked;
@@ -37,6 +38,17 @@ fn set_of(words: &[u64; 4]) -> StateSet
     StateSet { words: w }
 }
 
+// A model whose sets are lent as four words each.
+fn model_of(size: u16, starts: &[u64; 4], safe: &[u64; 4]) -> Model
+    ensures { λ r. ⌜ IsModel size (now (starts .entry)) (now (safe .entry)) r ⌝ }
+{
+    Model {
+        size,
+        starts: set_of(starts),
+        safe: set_of(safe),
+    }
+}
+
 // A set into four lent words, unless there is a refusal.
 fn give_set(refusal: u8, set: StateSet, words: &mut [u64; 4])
     ensures { λ r. ⌜ now (words .exit) ≡ kept refusal (set .words) (now (words .entry)) ⌝ }
@@ -48,12 +60,12 @@ fn give_set(refusal: u8, set: StateSet, words: &mut [u64; 4])
     *words = w;
 }
 
-// The full set of n states.
+// The full set of N states.
 #[no_mangle]
-pub extern "C" fn lampferret_full(n: u16, set: &mut [u64; 4]) -> u8
-    ensures { λ r. ⌜ SetGiven (sizeRefusal n) (full n) (now (set .entry)) (now (set .exit)) r ⌝ }
+pub extern "C" fn lampferret_full(size: u16, set: &mut [u64; 4]) -> u8
+    ensures { λ r. ⌜ SetGiven (sizeRefusal size) (full size) (now (set .entry)) (now (set .exit)) r ⌝ }
 {
-    let a = StateSet::full(n);
+    let a = StateSet::full(size);
     let refusal = a.refusal;
     give_set(refusal, a.set, set);
     refusal
@@ -108,10 +120,11 @@ pub extern "C" fn lampferret_turn(a: i16, b: i16, turn: &mut i16) -> u8
 
 // f(x).
 #[no_mangle]
-pub extern "C" fn lampferret_f(moves: &[u64], n: u16, x: &[u64; 4], result: &mut [u64; 4]) -> u8
-    ensures { λ r. ⌜ SetGiven (moveRefusal n (now (moves .entry)) (now (x .entry))) (f n (now (moves .entry)) (now (x .entry))) (now (result .entry)) (now (result .exit)) r ⌝ }
+pub extern "C" fn lampferret_f(moves: &[u64], size: u16, x: &[u64; 4], result: &mut [u64; 4]) -> u8
+    ensures { λ r. ⌜ SetGiven (moveRefusal size (now (moves .entry)) (now (x .entry))) (f size (now (moves .entry)) (now (x .entry)))
+        (now (result .entry)) (now (result .exit)) r ⌝ }
 {
-    let a = moves::f(moves, n, set_of(x));
+    let a = moves::f(moves, size, set_of(x));
     let refusal = a.refusal;
     give_set(refusal, a.set, result);
     refusal
@@ -119,10 +132,11 @@ pub extern "C" fn lampferret_f(moves: &[u64], n: u16, x: &[u64; 4], result: &mut
 
 // g(x).
 #[no_mangle]
-pub extern "C" fn lampferret_g(moves: &[u64], n: u16, x: &[u64; 4], result: &mut [u64; 4]) -> u8
-    ensures { λ r. ⌜ SetGiven (moveRefusal n (now (moves .entry)) (now (x .entry))) (g n (now (moves .entry)) (now (x .entry))) (now (result .entry)) (now (result .exit)) r ⌝ }
+pub extern "C" fn lampferret_g(moves: &[u64], size: u16, x: &[u64; 4], result: &mut [u64; 4]) -> u8
+    ensures { λ r. ⌜ SetGiven (moveRefusal size (now (moves .entry)) (now (x .entry))) (g size (now (moves .entry)) (now (x .entry)))
+        (now (result .entry)) (now (result .exit)) r ⌝ }
 {
-    let a = moves::g(moves, n, set_of(x));
+    let a = moves::g(moves, size, set_of(x));
     let refusal = a.refusal;
     give_set(refusal, a.set, result);
     refusal
@@ -130,10 +144,10 @@ pub extern "C" fn lampferret_g(moves: &[u64], n: u16, x: &[u64; 4], result: &mut
 
 // A fresh run buffer.
 #[no_mangle]
-pub extern "C" fn lampferret_fresh(n: u16, run: &mut [u64]) -> u8
-    ensures { λ r. ⌜ FreshPromise n (now (run .entry)) (now (run .exit)) r ⌝ }
+pub extern "C" fn lampferret_fresh(size: u16, run: &mut [u64]) -> u8
+    ensures { λ r. ⌜ FreshPromise size (now (run .entry)) (now (run .exit)) r ⌝ }
 {
-    runs::fresh(n, run)
+    runs::fresh(size, run)
 }
 
 // The number of a rule in document 01.
@@ -165,22 +179,17 @@ fn give_rule(a: Asked, rule: &mut u8) -> u8
 #[no_mangle]
 pub extern "C" fn lampferret_single(
     moves: &[u64],
-    n: u16,
+    size: u16,
     starts: &[u64; 4],
     safe: &[u64; 4],
     run: &mut [u64],
     proposal: &[u64; 4],
     rule: &mut u8,
 ) -> u8
-    ensures { λ r. ⌜ SingleGiven (table n (now (starts .entry)) (now (safe .entry)) (now (moves .entry))) (now (proposal .entry)) (now (run .entry)) (now (run .exit)) (now (rule .entry)) (now (rule .exit)) r ⌝ }
+    ensures { λ r. ⌜ SingleGiven (table size (now (starts .entry)) (now (safe .entry)) (now (moves .entry))) (now (proposal .entry))
+        (now (run .entry)) (now (run .exit)) (now (rule .entry)) (now (rule .exit)) r ⌝ }
 {
-    let i = set_of(starts);
-    let p = set_of(safe);
-    let model = Model {
-        size: n,
-        starts: i,
-        safe: p,
-    };
+    let model = model_of(size, starts, safe);
     let a = runs::single(moves, model, run, set_of(proposal));
     give_rule(a, rule)
 }
@@ -216,7 +225,7 @@ fn give_answer(a: RunAnswer, words: &mut [u64; 5]) -> u8
 #[no_mangle]
 pub extern "C" fn lampferret_run(
     moves: &[u64],
-    n: u16,
+    size: u16,
     starts: &[u64; 4],
     safe: &[u64; 4],
     run: &mut [u64],
@@ -226,15 +235,11 @@ pub extern "C" fn lampferret_run(
     walk: &mut [u16],
     answer: &mut [u64; 5],
 ) -> u8
-    ensures { λ r. ⌜ RunGiven (table n (now (starts .entry)) (now (safe .entry)) (now (moves .entry))) (now (hints .entry)) budget (now (run .entry)) (now (run .exit)) (now (set .entry)) (now (set .exit)) (now (walk .entry)) (now (walk .exit)) (now (answer .entry)) (now (answer .exit)) r ⌝ }
+    ensures { λ r. ⌜ RunGiven (table size (now (starts .entry)) (now (safe .entry)) (now (moves .entry))) (now (hints .entry)) budget
+        (now (run .entry)) (now (run .exit)) (now (set .entry)) (now (set .exit)) (now (walk .entry)) (now (walk .exit))
+        (now (answer .entry)) (now (answer .exit)) r ⌝ }
 {
-    let i = set_of(starts);
-    let p = set_of(safe);
-    let model = Model {
-        size: n,
-        starts: i,
-        safe: p,
-    };
+    let model = model_of(size, starts, safe);
     let a = runs::run(moves, model, run, hints, budget, set, walk);
     give_answer(a, answer)
 }
@@ -252,15 +257,18 @@ pub extern "C" fn lampferret_read(
     counts: &mut [u16; 2],
     offset: &mut usize,
 ) -> u8
-    ensures { λ r. ⌜ ReadGiven (now (file .entry)) (now (moves .entry)) (now (moves .exit)) (now (angles .entry)) (now (angles .exit)) (now (modes .entry)) (now (modes .exit)) (now (starts .entry)) (now (starts .exit)) (now (safe .entry)) (now (safe .exit)) (now (counts .entry)) (now (counts .exit)) (now (offset .exit)) r ⌝ }
+    ensures { λ r. ⌜ ReadGiven (now (file .entry)) (now (moves .entry)) (now (moves .exit)) (now (angles .entry)) (now (angles .exit))
+        (now (modes .entry)) (now (modes .exit)) (now (starts .entry)) (now (starts .exit)) (now (safe .entry)) (now (safe .exit))
+        (now (counts .entry)) (now (counts .exit)) (now (offset .exit)) r ⌝ }
 {
     let a = tables::read(file, moves, angles, modes);
     let refusal = a.refusal;
-    give_set(refusal, a.starts, starts);
-    give_set(refusal, a.safe, safe);
+    let model = a.model;
+    give_set(refusal, model.starts, starts);
+    give_set(refusal, model.safe, safe);
     *offset = a.offset;
     if refusal == answers::NO_REFUSAL {
-        *counts = [a.n, a.moves];
+        *counts = [model.size, a.moves];
     }
     refusal
 }
@@ -281,7 +289,7 @@ fn give_written(a: Written, length: &mut usize) -> u8
 // Writes a table's file to the front of an output; the place `length` gets the file's length.
 #[no_mangle]
 pub extern "C" fn lampferret_write(
-    n: u16,
+    size: u16,
     starts: &[u64; 4],
     safe: &[u64; 4],
     moves: &[u64],
@@ -290,9 +298,11 @@ pub extern "C" fn lampferret_write(
     out: &mut [u8],
     length: &mut usize,
 ) -> u8
-    ensures { λ r. ⌜ WriteGiven (controlFrom n (now (starts .entry)) (now (safe .entry)) (now (moves .entry)) (now (angles .entry)) (now (modes .entry))) (now (out .entry)) (now (out .exit)) (now (length .entry)) (now (length .exit)) r ⌝ }
+    ensures { λ r. ⌜ WriteGiven (control (table size (now (starts .entry)) (now (safe .entry)) (now (moves .entry)))
+        (now (angles .entry)) (now (modes .entry))) (now (out .entry)) (now (out .exit)) (now (length .entry)) (now (length .exit)) r ⌝ }
 {
-    let a = tables::write(n, set_of(starts), set_of(safe), moves, angles, modes, out);
+    let model = model_of(size, starts, safe);
+    let a = tables::write(moves, model, angles, modes, out);
     give_written(a, length)
 }
 
@@ -312,7 +322,8 @@ fn give_listed(a: Listed, length: &mut usize) -> u8
 // The listing of a file, as the program `check` prints it; the place `length` gets its length.
 #[no_mangle]
 pub extern "C" fn lampferret_check(file: &[u8], out: &mut [u8], length: &mut usize) -> u8
-    ensures { λ r. ⌜ ListGiven (given (checkListing (now (file .entry)))) (now (out .entry)) (now (out .exit)) (now (length .entry)) (now (length .exit)) r ⌝ }
+    ensures { λ r. ⌜ ListGiven (given (checkListing (now (file .entry)))) (now (out .entry)) (now (out .exit))
+        (now (length .entry)) (now (length .exit)) r ⌝ }
 {
     give_listed(checks::check(file, out), length)
 }

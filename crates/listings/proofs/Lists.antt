@@ -1,23 +1,31 @@
--- A listing that was measured in no output at all, and then put into an output that holds it, is what a call promises.
-use Prim.Native.Nat.{ℕ, _+_, _≤_, _<_, _^_}
+-- What a call that lists promises: of a refusal, and of a listing that was measured in no output at all and then put into one that holds it.
+use Prim.Native.Nat.{ℕ, zero, suc, _+_, _*_, _≤_, _<_, _^_}
 use native.Mathlib.Omega.{arith}
-use mathlib.Core.Path.{_≡_, _∙_}
+use mathlib.Core.Path.{_≡_, refl, sym, _∙_}
 use mathlib.Core.List.{List}
 use lib.ListN.{length}
 use lib.Seq.{sets-eq}
 use borrow.Author.Tests.{le-leb, lt-leb}
-use Rattle.answers.specs.Answer.{Answer, refused, given}
+use Rattle.answers.specs.Answer.{given, unlessRefused}
 use Rattle.answers.specs.Refusals.{shortOutput}
+use Rattle.listings.specs.declared.Listed.{Listed}
 use Rattle.listings.specs.declared.Listed.the-variants.{Length, Refused}
-use Rattle.listings.specs.Puts.{Puts}
+use Rattle.listings.specs.Inner.{Puts}
 use Rattle.listings.specs.Said.{answered, written, Lists}
 
--- there is nothing to list
-pub lists-refused : {wanted : Answer (List ℕ)} {n : ℕ} {out : List ℕ} → wanted ≡ refused n → Lists wanted out (Refused n) out
-unfolding answered written
-lists-refused e = record { answer = rw e; output = rw e }
+-- there is nothing to list where there is a refusal n
+pub lists-refused : (bytes out : List ℕ) (n m : ℕ) → n ≡ m → (n ≡ 0 → ⊥) → Lists (unlessRefused m bytes) out (Refused n) out
+unfolding answered written unlessRefused
+lists-refused bytes out n zero e h = absurd (h e)
+lists-refused bytes out n (suc m) e h = rw e (record { answer = refl; output = refl })
 
-module _ (out : List ℕ) {none none′ bytes : List ℕ} {n : ℕ} (fits : length out < 2 ^ 63) (measured : Puts none 0 bytes none′ n) where
+-- and where there is none the listing is wanted
+pub lists-taken :
+    (bytes out later : List ℕ) (n m : ℕ) (r : Listed) → n ≡ m → n ≡ 0 → Lists (given bytes) out r later → Lists (unlessRefused m bytes) out r later
+unfolding unlessRefused
+lists-taken bytes out later n m r e z p = rw (sym e ∙ z) p
+
+module _ (out : List ℕ) {none none′ bytes : List ℕ} {n : ℕ} (room : length out * 1 < 2 ^ 63) (measured : Puts none 0 bytes none′ n) where
   -- the output is too short
   pub lists-short : length out < n → Lists (given bytes) out (Refused shortOutput) out
   unfolding answered written

@@ -2,10 +2,11 @@
 use Prim.Native.Nat.{ℕ}
 use mathlib.Core.Path.{_≡_}
 use mathlib.Core.List.{List}
-use lib.IntN.{ℤ}
 use Rattle.answers.specs.Answer.{Answer, given}
 use Rattle.answers.proofs.Unique.{only}
 use Rattle.sets.specs.Sets.{Set}
+use Rattle.rules.specs.Table.{Table}
+use Rattle.moves.specs.Models.{Control}
 use Rattle.listings.specs.declared.Listed.{Listed}
 use Rattle.listings.specs.declared.Listed.the-variants.{Length, Refused}
 use Rattle.listings.specs.Listing.{refusedListing, safeListing, reachedWanted}
@@ -19,7 +20,9 @@ said-one (Refused m) (Length n) e = cc
 said-one (Refused m) (Refused n) e = cc
 
 -- the answer and the output of any call that lists
-pub lists-once : (wanted : Answer (List ℕ)) (out : List ℕ) {a b : Listed} {l m : List ℕ} → Lists wanted out a l → Lists wanted out b m → (a ≡ b) × (l ≡ m)
+pub lists-once :
+    (wanted : Answer (List ℕ)) (out : List ℕ) {a b : Listed} {l m : List ℕ} → Lists wanted out a l → Lists wanted out b m
+    → (a ≡ b) × (l ≡ m)
 lists-once wanted out {a} {b} p q = (said-one a b (only (p .answer) (q .answer)), only (p .output) (q .output))
 
 pub refused-once :
@@ -28,12 +31,11 @@ pub refused-once :
 refused-once number offset = lists-once (given (refusedListing number offset))
 
 pub safe-once :
-    (N : ℕ) (I P : Set) (moves j rules : ℕ) (x : Set) (out : List ℕ) {a b : Listed} {l m : List ℕ}
-    → Lists (given (safeListing N I P moves j rules x)) out a l → Lists (given (safeListing N I P moves j rules x)) out b m → (a ≡ b) × (l ≡ m)
-safe-once N I P moves j rules x = lists-once (given (safeListing N I P moves j rules x))
+    (t : Table) (j rules : ℕ) (x : Set) (out : List ℕ) {a b : Listed} {l m : List ℕ} → Lists (given (safeListing t j rules x)) out a l
+    → Lists (given (safeListing t j rules x)) out b m → (a ≡ b) × (l ≡ m)
+safe-once t j rules x = lists-once (given (safeListing t j rules x))
 
 pub reached-once :
-    (N : ℕ) (I P : Set) (moves rules : ℕ) (walk : List ℕ) (states : ℕ) (angles : List ℤ) (modes out : List ℕ) {a b : Listed} {l m : List ℕ}
-    → Lists (reachedWanted N I P moves rules walk states angles modes) out a l
-    → Lists (reachedWanted N I P moves rules walk states angles modes) out b m → (a ≡ b) × (l ≡ m)
-reached-once N I P moves rules walk states angles modes = lists-once (reachedWanted N I P moves rules walk states angles modes)
+    (c : Control) (rules : ℕ) (walk : List ℕ) (states : ℕ) (out : List ℕ) {a b : Listed} {l m : List ℕ}
+    → Lists (reachedWanted c rules walk states) out a l → Lists (reachedWanted c rules walk states) out b m → (a ≡ b) × (l ≡ m)
+reached-once c rules walk states = lists-once (reachedWanted c rules walk states)

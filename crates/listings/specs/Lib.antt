@@ -1,4 +1,4 @@
 pub mod Text
 pub mod Listing
 pub mod Said
-pub mod Puts
+pub mod Inner

@@ -2,19 +2,19 @@
 use Prim.Native.Nat.{ℕ, zero, suc, _+_, _/_, _%_}
 use Prim.Native.Char.{code}
 use Prim.Native.String.{String, charAt, count}
-use mathlib.Core.Bool.{Bool, true, false, cond}
+use mathlib.Core.Bool.{cond}
 use mathlib.Core.List.{List, [], _∷_, _++_}
 use lib.Dec.{ltb}
 use lib.IntN.{ℤ, pos, negsuc}
 
 -- f 0 ++ .. ++ f (n - 1)
-unfoldable pub each : ℕ → (ℕ → List ℕ) → List ℕ
-each zero f = []
-each (suc n) f = each n f ++ f n
+unfoldable pub appended : ℕ → (ℕ → List ℕ) → List ℕ
+appended zero f = []
+appended (suc n) f = appended n f ++ f n
 
 -- the bytes of a quoted text
 unfoldable pub text : String → List ℕ
-text t = each (count t) (λ i. code (charAt t i) ∷ [])
+text t = appended (count t) (λ i. code (charAt t i) ∷ [])
 
 -- the decimal digits of n, the last k of them where it has more
 unfoldable pub digits : ℕ → ℕ → List ℕ
@@ -26,9 +26,9 @@ unfoldable pub decimal : ℕ → List ℕ
 decimal n = digits (suc n) n
 
 -- an integer, with its sign where it is below 0
-unfoldable pub signed : ℤ → List ℕ
-signed (pos n) = decimal n
-signed (negsuc n) = code "-" ∷ decimal (suc n)
+unfoldable pub signedDecimal : ℤ → List ℕ
+signedDecimal (pos n) = decimal n
+signedDecimal (negsuc n) = code "-" ∷ decimal (suc n)
 
 -- what stands in front, and the fields after it, a space before each
 unfoldable pub spaced : List ℕ → List (List ℕ) → List ℕ
@@ -39,11 +39,6 @@ spaced front (f ∷ fs) = spaced (front ++ code " " ∷ f) fs
 unfoldable pub parted : List (List ℕ) → List ℕ
 parted [] = []
 parted (f ∷ fs) = spaced f fs
-
--- what stands before a field of a line: nothing before the first, a space before any other
-unfoldable pub gap : Bool → List ℕ
-gap true = []
-gap false = code " " ∷ []
 
 -- a line: its fields, and a newline
 unfoldable pub line : List (List ℕ) → List ℕ

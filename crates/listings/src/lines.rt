@@ -2,14 +2,17 @@
 ghost use Prim.Native.Nat.{_<_};
 ghost use mathlib.Core.List.{_++_, map};
 ghost use lib.ListN.{length};
-ghost use Rattle.listings.specs.Text.{each, decimal, parted, gap};
-ghost use Rattle.listings.specs.Listing.{refusedListing, modelLine, safeLine, membersBelow, membersLine, safeListing, reachedLine, stateLine, reachedListing};
-ghost use Rattle.listings.specs.Puts.{Puts};
+ghost use Rattle.moves.specs.Models.{on, control};
+ghost use Rattle.listings.specs.Text.{appended, decimal, parted};
+ghost use Rattle.listings.specs.Listing.{refusedListing, modelLine, safeListing, safeLine, membersBelow, membersLine};
+ghost use Rattle.listings.specs.Listing.{reachedListing, reachedLine, stateLine};
+ghost use Rattle.listings.specs.Inner.{Puts, gap};
 use crate::put;
 use crate::walk::angle_at;
 use crate::walk::mode_at;
 use crate::walk::state_at;
 use crate::walk::turn_at;
+use moves::Model;
 use sets::StateSet;
 
 // The one line of a refused file.
@@ -23,20 +26,13 @@ pub fn refused_line(out: &mut [u8], at: usize, number: u8, offset: usize) -> usi
 }
 
 // Line 1.
-fn model_line(
-    out: &mut [u8],
-    at: usize,
-    n: u16,
-    starts: StateSet,
-    safe: StateSet,
-    moves: u16,
-) -> usize
-    ensures { λ r. ⌜ Puts (now (out .entry)) at (modelLine n (starts .words) (safe .words) moves) (now (out .exit)) r ⌝ }
+fn model_line(out: &mut [u8], at: usize, moves: &[u64], model: Model) -> usize
+    ensures { λ r. ⌜ Puts (now (out .entry)) at (modelLine (on model (now (moves .entry)))) (now (out .exit)) r ⌝ }
 {
-    let next = put::number(out, at, b"model ", n as u64);
-    let next = put::number(out, next, b" ", starts.count() as u64);
-    let next = put::number(out, next, b" ", safe.count() as u64);
-    let next = put::number(out, next, b" ", moves as u64);
+    let next = put::number(out, at, b"model ", model.size as u64);
+    let next = put::number(out, next, b" ", model.starts.count() as u64);
+    let next = put::number(out, next, b" ", model.safe.count() as u64);
+    let next = put::number(out, next, b" ", moves::count_moves(moves) as u64);
     put::text(out, next, b"\n")
 }
 
@@ -88,17 +84,15 @@ fn members_line(out: &mut [u8], at: usize, x: StateSet) -> usize
 // The listing of a safe run.
 pub fn safe_run(
     out: &mut [u8],
-    n: u16,
-    starts: StateSet,
-    safe: StateSet,
-    moves: u16,
+    moves: &[u64],
+    model: Model,
     j: usize,
     rules: u64,
     x: StateSet,
 ) -> usize
-    ensures { λ r. ⌜ Puts (now (out .entry)) 0 (safeListing n (starts .words) (safe .words) moves j rules (x .words)) (now (out .exit)) r ⌝ }
+    ensures { λ r. ⌜ Puts (now (out .entry)) 0 (safeListing (on model (now (moves .entry))) j rules (x .words)) (now (out .exit)) r ⌝ }
 {
-    let next = model_line(out, 0, n, starts, safe, moves);
+    let next = model_line(out, 0, moves, model);
     let next = safe_line(out, next, j, rules, x);
     members_line(out, next, x)
 }
@@ -135,7 +129,9 @@ fn state_line(
 
 // A line for each state of a walk.
 fn state_lines(out: &mut [u8], at: usize, walk: &[u16], angles: &[i16], modes: &[u8]) -> usize
-    ensures { λ r. ⌜ Puts (now (out .entry)) at (each (length (now (walk .entry))) (stateLine (now (walk .entry)) (now (angles .entry)) (now (modes .entry)))) (now (out .exit)) r ⌝ }
+    ensures { λ r. ⌜ Puts (now (out .entry)) at
+        (appended (length (now (walk .entry))) (stateLine (now (walk .entry)) (now (angles .entry)) (now (modes .entry))))
+        (now (out .exit)) r ⌝ }
 {
     let mut next = at;
     let mut i = 0;
@@ -149,18 +145,18 @@ fn state_lines(out: &mut [u8], at: usize, walk: &[u16], angles: &[i16], modes: &
 // The listing of a reached run.
 pub fn reached_run(
     out: &mut [u8],
-    n: u16,
-    starts: StateSet,
-    safe: StateSet,
-    moves: u16,
-    rules: u64,
-    walk: &[u16],
+    moves: &[u64],
+    model: Model,
     angles: &[i16],
     modes: &[u8],
+    rules: u64,
+    walk: &[u16],
 ) -> usize
-    ensures { λ r. ⌜ Puts (now (out .entry)) 0 (reachedListing n (starts .words) (safe .words) moves rules (now (walk .entry)) (now (angles .entry)) (now (modes .entry))) (now (out .exit)) r ⌝ }
+    ensures { λ r. ⌜ Puts (now (out .entry)) 0
+        (reachedListing (control (on model (now (moves .entry))) (now (angles .entry)) (now (modes .entry))) rules (now (walk .entry)))
+        (now (out .exit)) r ⌝ }
 {
-    let next = model_line(out, 0, n, starts, safe, moves);
+    let next = model_line(out, 0, moves, model);
     let next = reached_line(out, next, walk.len(), rules);
     state_lines(out, next, walk, angles, modes)
 }

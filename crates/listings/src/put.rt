@@ -4,8 +4,8 @@
 ghost use mathlib.Core.Path.{_≡_};
 ghost use mathlib.Core.List.{_∷_, [], _++_};
 ghost use lib.IntN.{natAbs};
-ghost use Rattle.listings.specs.Text.{decimal, signed};
-ghost use Rattle.listings.specs.Puts.{Puts};
+ghost use Rattle.listings.specs.Text.{decimal, signedDecimal};
+ghost use Rattle.listings.specs.Inner.{Puts};
 
 // One byte.
 pub fn byte(out: &mut [u8], at: usize, b: u8) -> usize
@@ -34,15 +34,15 @@ pub fn text(out: &mut [u8], at: usize, t: &[u8]) -> usize
     next
 }
 
-// The decimal digits of n.
-pub fn digits(out: &mut [u8], at: usize, n: u64) -> usize
-    ensures { λ r. ⌜ Puts (now (out .entry)) at (decimal n) (now (out .exit)) r ⌝ }
+// The decimal digits of a number.
+pub fn digits(out: &mut [u8], at: usize, value: u64) -> usize
+    ensures { λ r. ⌜ Puts (now (out .entry)) at (decimal value) (now (out .exit)) r ⌝ }
 {
-    if n < 10 {
-        return byte(out, at, 48 + n as u8);
+    if value < 10 {
+        return byte(out, at, 48 + value as u8);
     }
-    let next = digits(out, at, n / 10);
-    byte(out, next, 48 + (n % 10) as u8)
+    let next = digits(out, at, value / 10);
+    byte(out, next, 48 + (value % 10) as u8)
 }
 
 // How far z lies from 0. -32768 has no opposite in an i16, so one is added after the cast.
@@ -54,7 +54,7 @@ fn distance(z: i16) -> u64
 
 // The decimal digits of z, after a minus sign where z is below 0.
 pub fn sign_and_digits(out: &mut [u8], at: usize, z: i16) -> usize
-    ensures { λ r. ⌜ Puts (now (out .entry)) at (signed z) (now (out .exit)) r ⌝ }
+    ensures { λ r. ⌜ Puts (now (out .entry)) at (signedDecimal z) (now (out .exit)) r ⌝ }
 {
     if z < 0 {
         let next = byte(out, at, b'-');
@@ -63,17 +63,17 @@ pub fn sign_and_digits(out: &mut [u8], at: usize, z: i16) -> usize
     digits(out, at, distance(z))
 }
 
-// A text, and n after it.
-pub fn number(out: &mut [u8], at: usize, before: &[u8], n: u64) -> usize
-    ensures { λ r. ⌜ Puts (now (out .entry)) at (now (before .entry) ++ decimal n) (now (out .exit)) r ⌝ }
+// A text, and a number after it.
+pub fn number(out: &mut [u8], at: usize, before: &[u8], value: u64) -> usize
+    ensures { λ r. ⌜ Puts (now (out .entry)) at (now (before .entry) ++ decimal value) (now (out .exit)) r ⌝ }
 {
     let next = text(out, at, before);
-    digits(out, next, n)
+    digits(out, next, value)
 }
 
 // A text, and z after it.
 pub fn integer(out: &mut [u8], at: usize, before: &[u8], z: i16) -> usize
-    ensures { λ r. ⌜ Puts (now (out .entry)) at (now (before .entry) ++ signed z) (now (out .exit)) r ⌝ }
+    ensures { λ r. ⌜ Puts (now (out .entry)) at (now (before .entry) ++ signedDecimal z) (now (out .exit)) r ⌝ }
 {
     let next = text(out, at, before);
     sign_and_digits(out, next, z)

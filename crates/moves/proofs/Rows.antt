@@ -1,4 +1,4 @@
--- f and g row by row, as the loops work them out; on sound rows they are f and g.
+-- f, g, soundness and the number of moves row by row, as the loops work them out; on sound rows they are f and g.
 use Prim.Native.Nat.{ℕ, suc, _+_, _-_, _*_, _%_, _^_, _≤_, _<_, min}
 use native.Mathlib.Nat.{zero-mul}
 use native.Mathlib.Numerals.{add-one}
@@ -6,20 +6,23 @@ use native.Mathlib.Omega.{arith}
 use mathlib.Core.Bool.{Bool, true, false, not, _&&_, _||_, or-false}
 use mathlib.Core.List.{List, [], _∷_}
 use mathlib.Core.Logic.{_⊎_, inl, inr, _≢_}
-use mathlib.Core.Path.{_≡_, refl, sym, ap, _∙_}
+use mathlib.Core.Path.{_≡_, refl, sym, ap, ap₂, _∙_}
 use borrow.Author.Tests.{lt-ltb, eq-eqb, ne-eqb}
 use lib.Bits.{bitOr, or-lt, or-zero-r}
 use lib.Dec.{ltb, eqb}
 use lib.Pow.{pow-lt}
+use lib.Seq.{sets}
 use Rattle.moves.specs.Wide.{forward256, backward256, endsIn}
-use Rattle.rules.specs.Table.{row, leads, soundRow, soundRows, forward, backward}
+use Rattle.rules.specs.Table.{Table, row, leads, soundRow, soundRows, soundTable, moveCount, withMove, forward, backward}
 use Rattle.sets.proofs.Members.{member-of, member-past, set-ext, set-pad, member-empty, proper-of, proper-empty, proper-ext, proper-up}
-use Rattle.sets.proofs.Search.{any-says, all-says, any-suc, all-stop}
-use Rattle.sets.proofs.Tests.{passed, passes, fails, clash, and-true, implies, implied, eqb-says, leb-says, lt-or-ge, same-or, Says, pass, fail}
-use Rattle.sets.specs.Search.{least, found, any, all}
+use Rattle.sets.proofs.Count.{count-max}
+use Rattle.sets.proofs.Search.{any-says, all-says, any-suc, all-stop, sum-max}
+use Rattle.sets.proofs.Tests.{passed, passes, fails, clash, and-true, not-true, not-false, implies, implied, eqb-says, leb-says, lt-or-ge, same-or}
+use Rattle.sets.proofs.Tests.{Says, pass, fail}
+use Rattle.sets.specs.Search.{least, found, any, all, sum}
 use Rattle.sets.proofs.Bits.{bit-or, bit-power, pack-of, pack-lt, pack-out, pack-pad, bit-pack}
 use Rattle.sets.proofs.Words.{one-shl}
-use Rattle.sets.specs.Sets.{join, Set, member, bit, pack, wordOf, setOf, empty, within, sound, quad}
+use Rattle.sets.specs.Sets.{join, Set, member, bit, pack, wordOf, setOf, empty, within, sound, with, count, quad}
 
 -- ---- f
 pub forward-none : (rows : List ℕ) (x : Set) → 0 ∷ 0 ∷ 0 ∷ 0 ∷ [] ≡ forward256 0 rows x
@@ -36,6 +39,24 @@ forward-in rows x s e =
 pub forward-out : (rows : List ℕ) (x : Set) (s : ℕ) → member x s ≡ false → forward256 s rows x ≡ forward256 (s + 1) rows x
 unfolding forward256
 forward-out rows x s e = set-ext 256 _ _ (λ u l. rw (add-one, any-suc, e) (sym (or-false _)))
+
+-- the loop of `forward` at s
+pub record Joining (N : ℕ) (rows : List ℕ) (x acc : Set) (s : ℕ) : Type 0 where
+  pub in-range : s ≤ N
+  pub is : acc ≡ forward256 s rows x
+
+pub join-begins : (N : ℕ) (rows : List ℕ) (x : Set) → Joining N rows x (0 ∷ 0 ∷ 0 ∷ 0 ∷ []) 0
+join-begins N rows x = record { in-range = omega arith; is = forward-none rows x }
+
+module _ (N : ℕ) (rows : List ℕ) (x acc : Set) (s : ℕ) (r : Bool) (v : Joining N rows x acc s) (l : s < N) (e : r ≡ member x s) where
+  pub join-in : (acc′ y : Set) → r ≡ true → y ≡ row rows s → acc′ ≡ join 256 acc y → Joining N rows x acc′ (s + 1)
+  join-in acc′ y q d f = record { in-range = omega arith; is = f ∙ ap₂ (join 256) (v .is) d ∙ forward-in rows x s (sym e ∙ q) }
+
+  pub join-out : (acc′ : Set) → r ≡ false → acc′ ≡ acc → Joining N rows x acc′ (s + 1)
+  join-out acc′ q f = record { in-range = omega arith; is = f ∙ v .is ∙ forward-out rows x s (sym e ∙ q) }
+
+pub join-ends : (N : ℕ) (rows : List ℕ) (x acc : Set) (s : ℕ) → Joining N rows x acc s → N ≤ s → acc ≡ forward256 N rows x
+join-ends N rows x acc s v l = let e : s ≡ N = omega (arith, v .in-range) in rw e at (v .is)
 
 -- ---- g
 pack-none : (p : ℕ → Bool) → 0 ≡ pack 0 p
@@ -94,16 +115,16 @@ module _ (rows : List ℕ) (x : Set) (q m : ℕ) where
       }
 
   -- the word is done where its count is
-  pub pack-ends : (n w k : ℕ) → Packing rows x q m w k → m ≡ min (n - q * 64) 64 → m ≤ k → w ≡ wordOf n (endsIn rows x) q
+  pub pack-ends : (N w k : ℕ) → Packing rows x q m w k → m ≡ min (N - q * 64) 64 → m ≤ k → w ≡ wordOf N (endsIn rows x) q
   unfolding wordOf
-  pack-ends n w k v e l =
-      let done : k ≡ min (n - q * 64) 64 = omega (arith, v .in-range) in
+  pack-ends N w k v e l =
+      let done : k ≡ min (N - q * 64) 64 = omega (arith, v .in-range) in
       v .packed ∙ rw done
 
-pub four-words : (n : ℕ) (rows : List ℕ) (x : Set) (a b c d : ℕ) → a ≡ wordOf n (endsIn rows x) 0 → b ≡ wordOf n (endsIn rows x) 1
-    → c ≡ wordOf n (endsIn rows x) 2 → d ≡ wordOf n (endsIn rows x) 3 → a ∷ b ∷ c ∷ d ∷ [] ≡ backward256 n rows x
-unfolding backward256 setOf endsIn
-four-words n rows x a b c d ea eb ec ed = rw (ea, eb, ec, ed)
+pub four-words : (N : ℕ) (rows : List ℕ) (x : Set) (a b c d : ℕ) → a ≡ wordOf N (endsIn rows x) 0 → b ≡ wordOf N (endsIn rows x) 1
+    → c ≡ wordOf N (endsIn rows x) 2 → d ≡ wordOf N (endsIn rows x) 3 → a ∷ b ∷ c ∷ d ∷ [] ≡ backward256 N rows x
+unfolding backward256 setOf
+four-words N rows x a b c d ea eb ec ed = rw (ea, eb, ec, ed)
 
 -- ---- on sound rows
 module _ (N : ℕ) (rows : List ℕ) (big : N ≤ 256) (ok : soundRows N rows ≡ true) where
@@ -118,14 +139,74 @@ module _ (N : ℕ) (rows : List ℕ) (big : N ≤ 256) (ok : soundRows N rows �
   pub forward-is : (x : Set) → forward256 N rows x ≡ forward N rows x
   unfolding forward256 forward
   forward-is x = sym (set-pad N big (λ u. any N (λ s. member x s && leads rows s u))
-      (λ u a l. fails (any-says N _) (λ w. let d : u < N = leads-below (w .0) u (w .1) l (and-true (member x (w .0)) (leads rows (w .0) u) (w .2) .1) in omega arith)))
+      (λ u a l. fails (any-says N _) (λ w.
+      let leads-to = and-true (member x (w .0)) (leads rows (w .0) u) (w .2) .1 in
+      let d : u < N = leads-below (w .0) u (w .1) l leads-to in
+      omega arith)))
 
   pub backward-is : (x : Set) → backward256 N rows x ≡ backward N rows x
-  unfolding backward256 backward
+  unfolding backward256 endsIn backward
   backward-is x = set-ext N _ _ (λ s l. go s l (all-says N (λ u. not (leads rows s u) || member x u)))
     where
-      go : (s : ℕ) → s < N → {b : Bool} → Says ((u : ℕ) → u < N → (not (leads rows s u) || member x u) ≡ true) ((u : ℕ) × (u < N) × ((not (leads rows s u) || member x u) ≡ false)) b
+      go : (s : ℕ) → s < N → {b : Bool}
+          → Says ((u : ℕ) → u < N → (not (leads rows s u) || member x u) ≡ true) ((u : ℕ) × (u < N) × ((not (leads rows s u) || member x u) ≡ false)) b
           → all 256 (λ u. not (leads rows s u) || member x u) ≡ b
       go s l (pass h) = passes (all-says 256 _) (λ w. clash (implies (leads rows s (w .0)) (member x (w .0))
           (λ e. implied (leads rows s (w .0)) (member x (w .0)) (h (w .0) (leads-below s (w .0) l (w .1) e)) e)) (w .2))
       go s l (fail w) = all-stop 256 _ (w .0) (omega (arith, w .1)) (w .2)
+
+-- ---- soundness, test by test
+module _ (t : Table) (a : Bool) (e : a ≡ sound (t .size) (t .starts)) where
+  pub unsound-starts : not a ≡ true → false ≡ soundTable t
+  unfolding soundTable
+  unsound-starts h = rw (sym e ∙ not-true a h)
+
+  module _ (h : not a ≡ false) (b : Bool) (f : b ≡ sound (t .size) (t .safe)) where
+    pub unsound-safe : not b ≡ true → false ≡ soundTable t
+    unfolding soundTable
+    unsound-safe k = rw (sym e ∙ not-false a h, sym f ∙ not-true b k)
+
+    pub sound-rest : not b ≡ false → (r : Bool) → r ≡ soundRows (t .size) (t .rows) → r ≡ soundTable t
+    unfolding soundTable
+    sound-rest k r q = q ∙ rw (sym e ∙ not-false a h, sym f ∙ not-false b k)
+
+-- ---- the number of moves: the loop of `count_moves` at s
+pub record Counting (rows : List ℕ) (total s : ℕ) : Type 0 where
+  pub in-range : s ≤ 256
+  pub is : total ≡ sum s (λ u. count 256 (row rows u))
+  pub small : total ≤ s * 256
+
+pub count-begins : (rows : List ℕ) → Counting rows 0 0
+unfolding sum
+count-begins rows = record { in-range = omega arith; is = refl; small = omega arith }
+
+module _ (rows : List ℕ) (total s : ℕ) (v : Counting rows total s) (l : s < 256) (x : Set) (m : ℕ) (e : x ≡ row rows s) (q : m ≡ count 256 x) where
+  row-count : m ≡ count 256 (row rows s)
+  row-count = q ∙ ap (count 256) e
+
+  pub count-room : total + m < 2 ^ 64
+  count-room = omega (arith, v .small, row-count, count-max 256 (row rows s))
+
+  pub count-goes : Counting rows (total + m) (s + 1)
+  unfolding sum
+  count-goes =
+      record {
+        in-range = omega arith;
+        is = rw add-one (omega (arith, v .is, row-count));
+        small = omega (arith, v .small, row-count, count-max 256 (row rows s));
+      }
+
+pub count-ends : (rows : List ℕ) (total s : ℕ) → Counting rows total s → 256 ≤ s → total ≡ moveCount rows
+unfolding moveCount
+count-ends rows total s v l = let e : s ≡ 256 = omega (arith, v .in-range) in rw e at (v .is)
+
+-- 256 rows of 256 states
+pub count-most : (rows : List ℕ) → moveCount rows ≤ 65536
+unfolding moveCount
+count-most rows = sum-max 256 256 _ (λ s l. count-max 256 (row rows s))
+
+-- ---- a move more
+pub move-added : (rows rows′ : List ℕ) (s u : ℕ) (x y : Set) → x ≡ quad rows (4 * s) → y ≡ with 256 x u → rows′ ≡ sets rows (4 * s) y
+    → rows′ ≡ withMove rows s u
+unfolding withMove
+move-added rows rows′ s u x y e f g = g ∙ ap (sets rows (4 * s)) (f ∙ ap (λ (z : Set). with 256 z u) e)

@@ -10,10 +10,10 @@ use Rattle.rules.specs.Table.{leads}
 unfoldable pub forward256 : ℕ → List ℕ → Set → Set
 forward256 N rows x = setOf 256 (λ u. any N (λ s. member x s && leads rows s u))
 
--- every state below N all of whose moves, to any number below 256, end in x
-unfoldable pub backward256 : ℕ → List ℕ → Set → Set
-backward256 N rows x = setOf N (λ s. all 256 (λ u. not (leads rows s u) || member x u))
-
 -- all moves of s, to any number below 256, end in x
 unfoldable pub endsIn : List ℕ → Set → ℕ → Bool
 endsIn rows x s = all 256 (λ u. not (leads rows s u) || member x u)
+
+-- every state below N all of whose moves, to any number below 256, end in x
+unfoldable pub backward256 : ℕ → List ℕ → Set → Set
+backward256 N rows x = setOf N (endsIn rows x)

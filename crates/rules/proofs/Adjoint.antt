@@ -32,13 +32,15 @@ module _ (t : Table) (big : t .size ≤ 256) where
   pub g-out : (x : Set) (s u : ℕ) → s < t .size → u < t .size → member (g t x) s ≡ true → leads (t .rows) s u ≡ true → member x u ≡ true
   unfolding backward
   g-out x s u ls lu e m =
-      implied (leads (t .rows) s u) (member x u) (passed (all-says (t .size) (λ u. not (leads (t .rows) s u) || member x u)) (sym (member-of (t .size) big _ s ls) ∙ e) u lu) m
+      implied (leads (t .rows) s u) (member x u)
+      (passed (all-says (t .size) (λ u. not (leads (t .rows) s u) || member x u)) (sym (member-of (t .size) big _ s ls) ∙ e) u lu) m
 
   pub g-in : (x : Set) (s : ℕ) → s < t .size → ((u : ℕ) → u < t .size → leads (t .rows) s u ≡ true → member x u ≡ true) → member (g t x) s ≡ true
   unfolding backward
   g-in x s ls h =
       member-of (t .size) big _ s ls
-      ∙ passes (all-says (t .size) (λ u. not (leads (t .rows) s u) || member x u)) (λ w. clash (implies (leads (t .rows) s (w .0)) (member x (w .0)) (h (w .0) (w .1))) (w .2))
+      ∙ passes (all-says (t .size) (λ u. not (leads (t .rows) s u) || member x u))
+      (λ w. clash (implies (leads (t .rows) s (w .0)) (member x (w .0)) (h (w .0) (w .1))) (w .2))
 
   pub to-g : (x y : Set) → f t x ⊑ y → x ⊑ g t y
   to-g x y h = record { at = λ s ls e. g-in y s ls (λ u lu m. h .at u lu (f-in x s u ls lu e m)) }

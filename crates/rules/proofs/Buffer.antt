@@ -7,35 +7,25 @@ use mathlib.Core.Path.{_≡_, refl, sym, ap, _∙_, fun-ext}
 use lib.Dec.{ltb, leb}
 use lib.ListN.{length, getD, length-append, List·getD-append}
 use lib.Seq.{getD-append-add}
-use Rattle.rules.specs.Buffer.{listed, flat, encode, decode, Normal}
+use Rattle.rules.specs.Buffer.{flat, encode, decode, Normal}
 use Rattle.rules.specs.Rules.{State}
 use Rattle.rules.specs.Table.{Table}
+use Rattle.sets.proofs.Lists.{length-tabulate, tabulate-at}
 use Rattle.sets.proofs.Members.{proper-length}
 use Rattle.sets.proofs.Tests.{leb-says, Says, pass, fail}
 use Rattle.sets.proofs.Words.{four-of}
 use Rattle.sets.specs.Sets.{Set, empty, quad, Proper}
 
-pub listed-length : (n : ℕ) (h : ℕ → ℕ) → length (listed n h) ≡ n
-unfolding listed
-listed-length zero h = refl
-listed-length (suc n) h = ap suc (listed-length n (λ i. h (suc i)))
-
-pub listed-at : (n : ℕ) (h : ℕ → ℕ) (i : ℕ) → i < n → getD (listed n h) i 0 ≡ h i
-unfolding listed
-listed-at zero h i l = absurd (omega arith)
-listed-at (suc n) h zero l = refl
-listed-at (suc n) h (suc i) l = listed-at n (λ i. h (suc i)) i (omega arith)
-
 flat-length : (x : ℕ → Set) → length (flat x) ≡ 1032
 unfolding flat
-flat-length x = listed-length 1032 (λ i. getD (x (i / 4)) (i % 4) 0)
+flat-length x = length-tabulate 1032 (λ i. getD (x (i / 4)) (i % 4) 0)
 
 flat-at : (x : ℕ → Set) (j c : ℕ) → j < 258 → c < 4 → getD (flat x) (4 * j + c) 0 ≡ getD (x j) c 0
 unfolding flat
 flat-at x j c l h =
     let q : (4 * j + c) / 4 ≡ j = omega arith in
     let r : (4 * j + c) % 4 ≡ c = omega arith in
-    listed-at 1032 (λ i. getD (x (i / 4)) (i % 4) 0) (4 * j + c) (omega arith) ∙ rw (q, r)
+    tabulate-at 1032 (λ i. getD (x (i / 4)) (i % 4) 0) 0 (4 * j + c) (omega arith) ∙ rw (q, r)
 
 module _ (s : State) where
   pub at-x : (j c i : ℕ) → j < 258 → c < 4 → i ≡ 2 + 4 * j + c → getD (encode s) i 0 ≡ getD (s .x j) c 0
@@ -69,13 +59,25 @@ module _ (N : ℕ) (s : State) (m : Normal N s) (big : s .n ≤ 258) where
   pub quad-x : (j : ℕ) → j < 258 → quad (encode s) (2 + 4 * j) ≡ s .x j
   unfolding quad
   quad-x j l =
-      rw (at-x s j 0 (2 + 4 * j) l (omega arith) (omega arith), at-x s j 1 (2 + 4 * j + 1) l (omega arith) (omega arith), at-x s j 2 (2 + 4 * j + 2) l (omega arith) (omega arith), at-x s j 3 (2 + 4 * j + 3) l (omega arith) (omega arith))
+      let word : (c i : ℕ) → c < 4 → i ≡ 2 + (4 * j + c) → getD (encode s) i 0 ≡ getD (s .x j) c 0 = λ c i h e. at-x s j c i l h (omega arith) in
+      rw (
+        word 0 (2 + 4 * j) (omega arith) (omega arith),
+        word 1 (2 + 4 * j + 1) (omega arith) (omega arith),
+        word 2 (2 + 4 * j + 2) (omega arith) (omega arith),
+        word 3 (2 + 4 * j + 3) (omega arith) (omega arith),
+      )
       (four-words N (s .x j) (m .proper-x j))
 
   pub quad-y : (j : ℕ) → j < 258 → quad (encode s) (1034 + 4 * j) ≡ s .y j
   unfolding quad
   quad-y j l =
-      rw (at-y s j 0 (1034 + 4 * j) l (omega arith) (omega arith), at-y s j 1 (1034 + 4 * j + 1) l (omega arith) (omega arith), at-y s j 2 (1034 + 4 * j + 2) l (omega arith) (omega arith), at-y s j 3 (1034 + 4 * j + 3) l (omega arith) (omega arith))
+      let word : (c i : ℕ) → c < 4 → i ≡ 1034 + (4 * j + c) → getD (encode s) i 0 ≡ getD (s .y j) c 0 = λ c i h e. at-y s j c i l h (omega arith) in
+      rw (
+        word 0 (1034 + 4 * j) (omega arith) (omega arith),
+        word 1 (1034 + 4 * j + 1) (omega arith) (omega arith),
+        word 2 (1034 + 4 * j + 2) (omega arith) (omega arith),
+        word 3 (1034 + 4 * j + 3) (omega arith) (omega arith),
+      )
       (four-words N (s .y j) (m .proper-y j))
 
   -- a buffer holds the state that it was made of

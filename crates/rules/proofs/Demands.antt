@@ -7,7 +7,7 @@ use mathlib.Core.Logic.{inl, inr, _≢_}
 use mathlib.Core.Path.{_≡_, refl, sym, ap, _∙_}
 use lib.ListN.{length, getD}
 use Rattle.rules.proofs.Adjoint.{f-mono, g-mono, forward-backward}
-use Rattle.rules.proofs.Budget.{run-result, run-keeps, run-most, budget, needs-more}
+use Rattle.rules.proofs.Budget.{run-standing, run-keeps, run-most, budget, needs-more}
 use Rattle.rules.proofs.Ends.{run-none, run-done, enough}
 use Rattle.rules.proofs.Entry.{entry-inv, inv-entry}
 use Rattle.rules.proofs.Held.{fit-by, held-back, kept-accepts}
@@ -17,22 +17,23 @@ use Rattle.rules.proofs.Meaning.{never-noRoom, closed-safe, safe-closed
 use Rattle.rules.proofs.Normal.{fire-normal}
 use Rattle.rules.proofs.Published.{is-step, step-is, run-steps}
 use Rattle.rules.specs.Buffer.{decode}
-use Rattle.rules.specs.Demands.{bound, Passes, Ended, Same, Adjoint, Kept, Published, Demand2, Demand3, Budget, Encoding, Rewritten, ended-safe, ended-reached, same-safe, same-reached}
-use Rattle.rules.specs.Rules.{noRoom, fresh, freshOf, conclusion, due, State, Result, safe, reached, unfinished}
-use Rattle.rules.specs.Runs.{stop, andThen, run, Outcome}
+use Rattle.rules.specs.Demands.{bound, Passes, Ended, Same, Adjoint, Kept, Published, Demand2, Demand3, Budget, Encoding, Rewritten, ended-safe}
+use Rattle.rules.specs.Demands.{ended-reached, same-safe, same-reached}
+use Rattle.rules.specs.Rules.{noRoom, fresh, freshOf, conclusion, due, State, Standing, safe, reached, unfinished}
+use Rattle.rules.specs.Runs.{stop, followedBy, run, Ran}
 use Rattle.rules.specs.Table.{f, g, Table}
 use Rattle.rules.specs.Walks.{BadReached, Closed}
 use Rattle.sets.proofs.Tests.{clash, lt-or-ge, Says, pass, fail}
 use Rattle.sets.proofs.Within.{within-says, is-within, not-both, within-true, within-false, not-within, empty-within, within-full, Within, Beyond}
 use Rattle.sets.specs.Sets.{Set, empty, full, within}
 
-ended-or : (r : Result) → r ≢ unfinished → r ≢ noRoom → Ended r
+ended-or : (r : Standing) → r ≢ unfinished → r ≢ noRoom → Ended r
 ended-or (safe j) h k = ended-safe j
 ended-or reached h k = ended-reached
 ended-or unfinished h k = absurd (h refl)
 ended-or noRoom h k = absurd (k refl)
 
-not-unfinished : {r : Result} → Ended r → r ≢ unfinished
+not-unfinished : {r : Standing} → Ended r → r ≢ unfinished
 not-unfinished (ended-safe j) e = let z : _≡_ {A = ℕ} 0 1 = cc in omega arith
 not-unfinished ended-reached e = let z : _≡_ {A = ℕ} 0 1 = cc in omega arith
 
@@ -97,46 +98,46 @@ module _ (t : Table) (big : t .size ≤ 256) where
     kept-state : Invariant t ((run t b hs s) .state)
     kept-state = run-keeps t big b hs s v
 
-    at-state : {r : Result} → (run t b hs s) .result ≡ r → conclusion t ((run t b hs s) .state) ≡ r
-    at-state e = sym (run-result t big b hs s v) ∙ e
+    at-state : {r : Standing} → (run t b hs s) .standing ≡ r → conclusion t ((run t b hs s) .state) ≡ r
+    at-state e = sym (run-standing t big b hs s v) ∙ e
 
-    has-ended : (run t b hs s) .result ≢ unfinished → Ended ((run t b hs s) .result)
+    has-ended : (run t b hs s) .standing ≢ unfinished → Ended ((run t b hs s) .standing)
     has-ended h = ended-or _ h (λ e. never-noRoom t _ (at-state e))
 
-    pub reached-is-bad : (run t b hs s) .result ≡ reached → BadReached t
+    pub reached-is-bad : (run t b hs s) .standing ≡ reached → BadReached t
     reached-is-bad e =
         let r = reached-bad t big _ kept-state (at-state e) in
         record { states = _; last = r .0; walked = r .1; bad = r .2 }
 
-    pub safe-is-closed : (j : ℕ) → (run t b hs s) .result ≡ safe j → Closed t ((run t b hs s) .state .x j)
+    pub safe-is-closed : (j : ℕ) → (run t b hs s) .standing ≡ safe j → Closed t ((run t b hs s) .state .x j)
     safe-is-closed j e = safe-closed t big _ j kept-state (at-state e)
 
-    pub ends-by : bound (t .size) ≤ b → Ended ((run t b hs s) .result)
+    pub ends-by : bound (t .size) ≤ b → Ended ((run t b hs s) .standing)
     ends-by h = has-ended (enough t big b hs s v h)
 
   -- the rules of a run are no more than those of the run that is given the bound
   pub rules-bound : (s : State) → Invariant t s → (b : ℕ) (hs : List Set) → (run t b hs s) .rules ≤ bound (t .size)
-  unfolding andThen stop
+  unfolding followedBy stop
   rules-bound s v b hs = elim (lt-or-ge b (bound (t .size))) [
     | inl l ↦ omega (arith, run-most t big b hs s v)
     | inr l ↦
         let q : bound (t .size) + (b - bound (t .size)) ≡ b = omega arith in
-        let o : Outcome = run t (bound (t .size)) hs s in
+        let o : Ran = run t (bound (t .size)) hs s in
         let d = run-done t (b - bound (t .size)) (o .left) (o .state)
-        (λ e. enough t big (bound (t .size)) hs s v (omega arith) (run-result t big (bound (t .size)) hs s v ∙ e)) in
+        (λ e. enough t big (bound (t .size)) hs s v (omega arith) (run-standing t big (bound (t .size)) hs s v ∙ e)) in
         rw (← q, budget t big (bound (t .size)) hs s v (b - bound (t .size)), d) (omega (arith, run-most t big (bound (t .size)) hs s v))
   ]
 
   -- two runs that ended say the same
   pub same-verdict : (s s′ : State) → Invariant t s → Invariant t s′ → (b b′ : ℕ) (hs hs′ : List Set)
-      → Ended ((run t b hs s) .result) → Ended ((run t b′ hs′ s′) .result) → Same ((run t b hs s) .result) ((run t b′ hs′ s′) .result)
+      → Ended ((run t b hs s) .standing) → Ended ((run t b′ hs′ s′) .standing) → Same ((run t b hs s) .standing) ((run t b′ hs′ s′) .standing)
   same-verdict s s′ v v′ b b′ hs hs′ p q = go _ _ refl refl p q
     where
       clash-of : {j : ℕ} (s₁ s₂ : State) → Invariant t s₁ → Invariant t s₂ → (b₁ b₂ : ℕ) (h₁ h₂ : List Set)
-          → (run t b₁ h₁ s₁) .result ≡ safe j → (run t b₂ h₂ s₂) .result ≡ reached → ⊥
+          → (run t b₁ h₁ s₁) .standing ≡ safe j → (run t b₂ h₂ s₂) .standing ≡ reached → ⊥
       clash-of {j} s₁ s₂ v₁ v₂ b₁ b₂ h₁ h₂ e e′ = closed-safe t (safe-is-closed s₁ v₁ b₁ h₁ j e) (reached-is-bad s₂ v₂ b₂ h₂ e′)
 
-      go : (r r′ : Result) → (run t b hs s) .result ≡ r → (run t b′ hs′ s′) .result ≡ r′ → Ended r → Ended r′ → Same r r′
+      go : (r r′ : Standing) → (run t b hs s) .standing ≡ r → (run t b′ hs′ s′) .standing ≡ r′ → Ended r → Ended r′ → Same r r′
       go r r′ e e′ (ended-safe i) (ended-safe j) = same-safe i j
       go r r′ e e′ (ended-safe i) ended-reached = absurd (clash-of s s′ v v′ b b′ hs hs′ e e′)
       go r r′ e e′ ended-reached (ended-safe j) = absurd (clash-of s′ s v′ v b′ b hs′ hs e′ e)
@@ -155,7 +156,7 @@ module _ (t : Table) (big : t .size ≤ 256) where
           exactly = λ e. (λ w. closed-safe t (safe-is-closed s v b hs (w .0) (w .1)), says-safe _ refl e);
         }
       where
-        says-safe : (r : Result) → (run t b hs s) .result ≡ r → Ended r → (BadReached t → ⊥) → (j : ℕ) × (r ≡ safe j)
+        says-safe : (r : Standing) → (run t b hs s) .standing ≡ r → Ended r → (BadReached t → ⊥) → (j : ℕ) × (r ≡ safe j)
         says-safe r e (ended-safe j) h = (j, refl)
         says-safe r e ended-reached h = absurd (h (reached-is-bad s v b hs e))
 
@@ -194,5 +195,7 @@ module _ (t : Table) (big : t .size ≤ 256) where
       record {
         again = λ s z p m o own e.
             let i = entry-inv t s p in
-            kept-accepts t big _ (keep t big (due t s) s z i o (due-is t s) (allowed-ok t (due t s) s z e)) (fire-normal t big (due t s) s z i m (due-is t s) own);
+            kept-accepts t big _
+            (keep t big (due t s) s z i o (due-is t s) (allowed-ok t (due t s) s z e))
+            (fire-normal t big (due t s) s z i m (due-is t s) own);
       }

@@ -10,8 +10,9 @@ use mathlib.Core.Path.{_≡_, refl, ap}
 use borrow.Author.Tests.{ne-eqb}
 use Rattle.rules.proofs.Invariant.{put-other, cut-low, Open, Invariant}
 use Rattle.rules.proofs.Keep.{due-is, Ok, allowed-ok, few-sets, house-ok, cut-sub, keep, Due, isUnfold, isCandidate, isDecide, isConflict}
-use Rattle.rules.specs.Rules.{noRoom, put, cut, conclusion, due, allowed, house, fire, State, Result, Rule, safe, reached, unfinished, Unfold, Candidate, Decide, Conflict}
-use Rattle.rules.specs.Runs.{pick, stop, asks, offered, after, willDo, choose, next, lacksRoom, lacksRoomFor, run, Outcome}
+use Rattle.rules.specs.Rules.{noRoom, put, cut, conclusion, due, allowed, house, fire, State, Standing, Rule, safe, reached, unfinished, Unfold}
+use Rattle.rules.specs.Rules.{Candidate, Decide, Conflict}
+use Rattle.rules.specs.Runs.{pick, stop, asks, offered, after, willDo, choose, next, lacksRoom, lacksRoomFor, run, Ran}
 use Rattle.rules.specs.Table.{f, Table}
 use Rattle.sets.proofs.Count.{count-le, count-lt, count-max, count-none}
 use Rattle.sets.proofs.Search.{sum-le, sum-lt}
@@ -43,7 +44,7 @@ module _ (t : Table) where
   pub opened : (s : State) → Open t s ⊎ (conclusion t s ≢ unfinished)
   opened s = go (conclusion t s)
     where
-      go : (c : Result) → (c ≡ unfinished) ⊎ (c ≢ unfinished)
+      go : (c : Standing) → (c ≡ unfinished) ⊎ (c ≢ unfinished)
       go (safe j) = inr (λ e. let z : _≡_ {A = ℕ} 0 1 = cc in omega arith)
       go reached = inr (λ e. let z : _≡_ {A = ℕ} 0 1 = cc in omega arith)
       go noRoom = inr (λ e. let z : _≡_ {A = ℕ} 0 1 = cc in omega arith)
@@ -55,7 +56,7 @@ module _ (t : Table) where
   run-done zero hs s h = refl
   run-done (suc b) hs s h = go (conclusion t s) refl
     where
-      go : (c : Result) → conclusion t s ≡ c → run t (suc b) hs s ≡ stop (conclusion t s) hs s
+      go : (c : Standing) → conclusion t s ≡ c → run t (suc b) hs s ≡ stop (conclusion t s) hs s
       go (safe j) q = rw (q, run)
       go reached q = rw (q, run)
       go noRoom q = rw (q, run)
@@ -95,7 +96,8 @@ module _ (t : Table) where
               (λ j l. count-le (t .size) (cut-sub t big (s .x) (s .k) z j)) (s .k) (omega (arith, v .le))
               (count-lt (t .size) (cut-sub t big (s .x) (s .k) z (s .k))
               (not-within (t .size) {x = s .x (s .k)} {y = cut (t .size) (s .x) (s .k) z (s .k)} (λ q. not-both (t .size)
-              (within-trans (t .size) (rw (cut-low (t .size) (s .x) (s .k) z (s .k) (omega arith)) at q) (within-trans (t .size) (meet-right (t .size) big (s .x (s .k)) z) zy))
+              (within-trans (t .size) (rw (cut-low (t .size) (s .x) (s .k) z (s .k) (omega arith)) at q)
+              (within-trans (t .size) (meet-right (t .size) big (s .x (s .k)) z) zy))
               (v .apart (s .k) (omega arith) (omega (arith, v .le)))))),
         )
 
@@ -135,9 +137,9 @@ module _ (t : Table) where
     next-inv hs s v o = keep t big (due t s) s _ v o (due-is t s) (choose-ok hs s v o)
 
     -- what holds where a run stops, and goes from a rule's outcome to that before it, holds of every run
-    pub run-ind : (Q : ℕ → List Set → State → Outcome → Type 0)
+    pub run-ind : (Q : ℕ → List Set → State → Ran → Type 0)
         → ((b : ℕ) (hs : List Set) (s : State) → Invariant t s → (b ≡ 0) ⊎ (conclusion t s ≢ unfinished) → Q b hs s (stop (conclusion t s) hs s))
-        → ((b : ℕ) (hs : List Set) (s : State) (o : Outcome) → Invariant t s → Open t s
+        → ((b : ℕ) (hs : List Set) (s : State) (o : Ran) → Invariant t s → Open t s
         → Q b ((choose t hs s) .left) (next t (choose t hs s) s) o → Q (suc b) hs s (after (choose t hs s) o))
         → (b : ℕ) (hs : List Set) (s : State) → Invariant t s → Q b hs s (run t b hs s)
     run-ind Q ends more zero hs s v = rw (run-none hs s) (ends zero hs s v (inl refl))
@@ -151,7 +153,7 @@ module _ (t : Table) where
     unfolding next
     next-drops hs s v o = drops (due t s) s _ v o (due-is t s) (choose-ok hs s v o)
 
-    pub ends : (b : ℕ) (hs : List Set) (s : State) → Invariant t s → weight s ≤ b + 2 * (t .size + 1) → (run t b hs s) .result ≢ unfinished
+    pub ends : (b : ℕ) (hs : List Set) (s : State) → Invariant t s → weight s ≤ b + 2 * (t .size + 1) → (run t b hs s) .standing ≢ unfinished
     unfolding stop after
     ends zero hs s v w e = omega (arith, open-weight s v (rw (run-none hs s) at e))
     ends (suc b) hs s v w e =
@@ -165,9 +167,10 @@ module _ (t : Table) where
     weight-max s v =
         let q : suc (s .n - 1) ≡ s .n = omega (arith, v .two) in
         counted (t .size) (s .n - 1) (t .size + 2 - s .n) (s .k) _ (omega (arith, v .two, v .cap))
-        (rw q at (sum-but-first (s .n - 1) (t .size) (λ j. count (t .size) (s .x j)) (count-none (t .size) (s .x 0) (v .x0)) (λ j. count-max (t .size) (s .x j))))
+        (rw q at (sum-but-first (s .n - 1) (t .size) (λ j. count (t .size) (s .x j))
+        (count-none (t .size) (s .x 0) (v .x0)) (λ j. count-max (t .size) (s .x j))))
         (omega (arith, v .le)) (omega (arith, v .two))
 
     -- demand: a run on a sound table ends within 2N² + 2N rules, whatever the hints
-    pub enough : (b : ℕ) (hs : List Set) (s : State) → Invariant t s → 2 * (t .size * t .size) + 2 * t .size ≤ b → (run t b hs s) .result ≢ unfinished
+    pub enough : (b : ℕ) (hs : List Set) (s : State) → Invariant t s → 2 * (t .size * t .size) + 2 * t .size ≤ b → (run t b hs s) .standing ≢ unfinished
     enough b hs s v h = ends b hs s v (omega (arith, weight-max s v))

@@ -8,7 +8,7 @@ use mathlib.Core.Path.{_≡_, refl, ap}
 use lib.Dec.{leb}
 use lib.ListN.{getD}
 use Rattle.rules.proofs.Invariant.{Invariant}
-use Rattle.rules.specs.Buffer.{each, held, ranges, rises, falls, parts, conditions}
+use Rattle.rules.specs.Buffer.{each, held, ranges, rises, falls, parts, chain, obstacles, conditions}
 use Rattle.rules.specs.Rules.{State}
 use Rattle.rules.specs.Table.{Table}
 use Rattle.sets.proofs.Search.{all-says}
@@ -70,56 +70,62 @@ each-no [] i e = absurd (true≢false e)
 each-no (b ∷ bs) zero e = rw e
 each-no (b ∷ bs) (suc i) e = elim (which b) [ inl h ↦ rw h (each-no bs i e) | inr h ↦ rw h ]
 
-module _ (t : Table) where
-  pub ranges-say : (s : State) → ranges (t .size) s ≡ true → (2 ≤ s .n) × (s .n ≤ t .size + 2) × (1 ≤ s .k) × (s .k ≤ s .n)
-  unfolding ranges
-  ranges-say s e =
-      let (c1, (c2, (c3, (c4, _)))) = each-true _ e in
-      (passed (leb-says 2 (s .n)) c1, passed (leb-says (s .n) (t .size + 2)) c2, passed (leb-says 1 (s .k)) c3, passed (leb-says (s .k) (s .n)) c4)
+pub ranges-say : (N : ℕ) (s : State) → ranges N s ≡ true → (2 ≤ s .n) × (s .n ≤ N + 2) × (1 ≤ s .k) × (s .k ≤ s .n)
+unfolding ranges
+ranges-say N s e =
+    let (c1, (c2, (c3, (c4, _)))) = each-true _ e in
+    (passed (leb-says 2 (s .n)) c1, passed (leb-says (s .n) (N + 2)) c2, passed (leb-says 1 (s .k)) c3, passed (leb-says (s .k) (s .n)) c4)
 
+module _ (t : Table) where
   pub entry-inv : (s : State) → each (conditions t s) ≡ true → Invariant t s
-  unfolding rises falls parts
+  unfolding rises falls parts chain obstacles
   entry-inv s e =
-      let (c1, (c5, (c6, (c9, (c10, (c11, (c12, _))))))) = each-true (conditions t s) e in
-      let r = ranges-say s c1 in
-      let two : 2 ≤ s .n = r .0 in
+      let (in-ranges, (is-chain, (are-obstacles, _))) = each-true (conditions t s) e in
+      let (first-empty, (rising, (last-safe, _))) = each-true _ is-chain in
+      let (top-safe, (falling, (parted, _))) = each-true _ are-obstacles in
+      let (two, cap, pos, le) = ranges-say (t .size) s in-ranges in
       record {
         two = two;
-        cap = r .1;
-        pos = r .2;
-        le = r .3;
-        x0 = is-within (t .size) _ _ c5;
-        up = λ j l. is-within (t .size) _ _ (each-true _ (passed (all-says _ _) c6 j (omega arith)) .0);
-        base = λ j l. is-within (t .size) _ _ (each-true _ (passed (all-says _ _) c6 j (omega arith)) .1 .0);
-        flow = λ j l. is-within (t .size) _ _ (each-true _ (passed (all-says _ _) c6 j (omega arith)) .1 .1 .0);
-        fine = λ j q. let r : s .n - 2 ≡ j = omega arith in rw r at (is-within (t .size) _ _ c9);
-        top = λ j a q. let r : s .n - 1 ≡ j = omega arith in rw r at (is-within (t .size) _ _ (held-true _ _ _ c10 (omega arith)));
-        back = λ j a l. is-within (t .size) _ _ (held-true _ _ _ (passed (all-says _ _) c11 j (omega arith)) a);
-        apart = λ j a l. is-beyond (t .size) _ _ (not-true _ (held-true _ _ _ (passed (all-says _ _) c12 j l) a));
+        cap = cap;
+        pos = pos;
+        le = le;
+        x0 = is-within (t .size) _ _ first-empty;
+        up = λ j l. is-within (t .size) _ _ (each-true _ (passed (all-says _ _) rising j (omega arith)) .0);
+        base = λ j l. is-within (t .size) _ _ (each-true _ (passed (all-says _ _) rising j (omega arith)) .1 .0);
+        flow = λ j l. is-within (t .size) _ _ (each-true _ (passed (all-says _ _) rising j (omega arith)) .1 .1 .0);
+        fine = λ j q. let r : s .n - 2 ≡ j = omega arith in rw r at (is-within (t .size) _ _ last-safe);
+        top = λ j a q. let r : s .n - 1 ≡ j = omega arith in rw r at (is-within (t .size) _ _ (held-true _ _ _ top-safe (omega arith)));
+        back = λ j a l. is-within (t .size) _ _ (held-true _ _ _ (passed (all-says _ _) falling j (omega arith)) a);
+        apart = λ j a l. is-beyond (t .size) _ _ (not-true _ (held-true _ _ _ (passed (all-says _ _) parted j l) a));
       }
 
-  pub inv-entry : (s : State) → Invariant t s → each (conditions t s) ≡ true
-  unfolding ranges rises falls parts
-  inv-entry s v =
-      true-each (conditions t s) (
-        true-each _ (leb-true (v .two), (leb-true (v .cap), (leb-true (v .pos), (leb-true (v .le), tt)))),
-        (
-          within-true (t .size) (v .x0),
+  module _ (s : State) (v : Invariant t s) where
+    inv-ranges : ranges (t .size) s ≡ true
+    unfolding ranges
+    inv-ranges = true-each _ (leb-true (v .two), (leb-true (v .cap), (leb-true (v .pos), (leb-true (v .le), tt))))
+
+    inv-rises : (j : ℕ) → j < s .n - 1 → rises t s j ≡ true
+    unfolding rises
+    inv-rises j l =
+        true-each _ (
+          within-true (t .size) (v .up j (omega arith)),
+          (within-true (t .size) (v .base j (omega arith)), (within-true (t .size) (v .flow j (omega arith)), tt)),
+        )
+
+    inv-chain : chain t s (s .n) ≡ true
+    unfolding chain
+    inv-chain = true-each _ (within-true (t .size) (v .x0), (all-true inv-rises, (within-true (t .size) (v .fine (s .n - 2) (omega (arith, v .two))), tt)))
+
+    inv-obstacles : obstacles t s ≡ true
+    unfolding obstacles falls parts
+    inv-obstacles =
+        true-each _ (
+          true-held _ _ _ (λ h. within-true (t .size) (v .top (s .n - 1) h (omega (arith, v .two)))),
           (
-            all-true (λ j l. true-each _ (within-true (t .size) (v .up j (omega arith)), (within-true (t .size) (v .base j (omega arith)), (within-true (t .size) (v .flow j (omega arith)), tt)))),
-            (
-              within-true (t .size) (v .fine (s .n - 2) (omega (arith, v .two))),
-              (
-                true-held _ _ _ (λ h. within-true (t .size) (v .top (s .n - 1) h (omega (arith, v .two)))),
-                (
-                  all-true (λ j l. true-held _ _ _ (λ h. within-true (t .size) (v .back j h (omega arith)))),
-                  (
-                    all-true (λ j l. true-held _ _ _ (λ h. ap not (within-false (t .size) (v .apart j h l)))),
-                    tt,
-                  ),
-                ),
-              ),
-            ),
+            all-true (λ j l. true-held _ _ _ (λ h. within-true (t .size) (v .back j h (omega arith)))),
+            (all-true (λ j l. true-held _ _ _ (λ h. ap not (within-false (t .size) (v .apart j h l)))), tt),
           ),
-        ),
-      )
+        )
+
+    pub inv-entry : each (conditions t s) ≡ true
+    inv-entry = true-each (conditions t s) (inv-ranges, (inv-chain, (inv-obstacles, tt)))

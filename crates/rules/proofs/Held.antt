@@ -1,7 +1,7 @@
 -- A buffer that passes the entry check is the words of one state, which every rule and run keeps.
 use Prim.Native.Nat.{ℕ, zero, suc, _+_, _-_, _*_, _≤_, _<_, _/_, _%_, _^_}
 use native.Mathlib.Omega.{arith}
-use mathlib.Core.Bool.{Bool, true, false, _&&_, cond, true≢false, and-false}
+use mathlib.Core.Bool.{Bool, true, false, _&&_, _||_, cond, true≢false, and-false}
 use mathlib.Core.List.{List, _∷_}
 use mathlib.Core.Logic.{inl, inr}
 use mathlib.Core.Path.{_≡_, refl, sym, ap, _∙_}
@@ -10,9 +10,9 @@ use lib.Dec.{ltb, leb}
 use lib.ListN.{length, getD}
 use lib.Seq.{ext-getD}
 use Rattle.rules.proofs.Buffer.{at-x, at-y, encode-n, encode-k, encode-length, quad-x, quad-y, decode-encode}
-use Rattle.rules.proofs.Entry.{Each, each-true, true-each, all-true, ranges-say, entry-inv, inv-entry}
+use Rattle.rules.proofs.Entry.{each-true, true-each, all-true, held-true, true-held, ranges-say, entry-inv, inv-entry}
 use Rattle.rules.proofs.Invariant.{Invariant}
-use Rattle.rules.specs.Buffer.{encode, decode, keptX, keptY, conditions, entryCheck, Normal}
+use Rattle.rules.specs.Buffer.{encode, decode, clearX, clearY, unused, soundX, soundY, conditions, entryTests, entryCheck, Normal}
 use Rattle.rules.specs.Rules.{State}
 use Rattle.rules.specs.Table.{Table}
 use Rattle.sets.proofs.Members.{proper-four, proper-empty, proper-past, proper-sound}
@@ -28,23 +28,23 @@ pub record Held (N : ℕ) (b : List ℕ) : Type 0 where
   pub same : encode (decode b) ≡ b
   pub cap : (decode b) .n ≤ 258
 
-module _ (t : Table) (b : List ℕ) where
-  abbrev pub tests : List Bool
-  tests = all 258 (keptX (t .size) b) ∷ all 258 (keptY (t .size) b) ∷ conditions t (decode b)
-
-  pub record Fit : Type 0 where
-    pub held : Held (t .size) b
-    pub inv : Invariant t (decode b)
+pub record Fit (t : Table) (b : List ℕ) : Type 0 where
+  pub held : Held (t .size) b
+  pub inv : Invariant t (decode b)
 
 none-proper : (x : Set) → Proper 256 x → sound 0 x ≡ true → x ≡ empty
 unfolding setOf wordOf pack empty
 none-proper x h e = sym ((proper-sound 0 (omega arith) x h e) .is)
 
 module _ (t : Table) (big : t .size ≤ 256) (b : List ℕ) (len : length b ≡ 2066) (words : (i : ℕ) → getD b i 0 < 2 ^ 64)
-    (kx : all 258 (keptX (t .size) b) ≡ true) (ky : all 258 (keptY (t .size) b) ≡ true) where
+    (clear : unused b ≡ true) (sx : soundX (t .size) (decode b) ((decode b) .n) ≡ true) (sy : soundY (t .size) (decode b) ≡ true) where
   four : (i : ℕ) → Proper 256 (quad b i)
   unfolding quad
   four i = proper-four _ _ _ _ (words i) (words (i + 1)) (words (i + 2)) (words (i + 3))
+
+  kept-by : (x : Set) (c : Bool) → (c || sound 0 x) ≡ true → (c ≡ true → sound (t .size) x ≡ true) → sound (cond c (t .size) 0) x ≡ true
+  kept-by x true e h = h refl
+  kept-by x false e h = e
 
   proper-at : (c : Bool) (i : ℕ) → sound (cond c (t .size) 0) (quad b i) ≡ true → Proper (t .size) (quad b i)
   proper-at true i e = proper-sound (t .size) big _ (four i) e
@@ -53,13 +53,21 @@ module _ (t : Table) (big : t .size ≤ 256) (b : List ℕ) (len : length b ≡ 
   none-at : (c : Bool) (i : ℕ) → c ≡ false → sound (cond c (t .size) 0) (quad b i) ≡ true → quad b i ≡ empty
   none-at c i q e = none-proper _ (four i) (rw q at e)
 
+  -- a place in use holds no members from N up, and one not in use none
   x-kept : (j : ℕ) → j < 258 → sound (cond (ltb j (getD b 0 0)) (t .size) 0) (quad b (2 + 4 * j)) ≡ true
-  unfolding keptX
-  x-kept j l = passed (all-says 258 (keptX (t .size) b)) kx j l
+  unfolding unused clearX decode
+  x-kept j l =
+      kept-by _ (ltb j (getD b 0 0)) (passed (all-says 258 (clearX b)) (each-true _ clear .0) j l)
+      (λ e. let low : j < getD b 0 0 = ltb-true j (getD b 0 0) e in rw e at (passed (all-says _ _) sx j low))
 
   y-kept : (j : ℕ) → j < 258 → sound (cond (leb (getD b 1 0) j && ltb j (getD b 0 0)) (t .size) 0) (quad b (1034 + 4 * j)) ≡ true
-  unfolding keptY
-  y-kept j l = passed (all-says 258 (keptY (t .size) b)) ky j l
+  unfolding unused clearY decode
+  y-kept j l =
+      kept-by _ (leb (getD b 1 0) j && ltb j (getD b 0 0)) (passed (all-says 258 (clearY b)) (each-true _ clear .1 .0) j l)
+      (λ e.
+      let in-use = and-true (leb (getD b 1 0) j) (ltb j (getD b 0 0)) e in
+      let low : j < getD b 0 0 = ltb-true j (getD b 0 0) (in-use .1) in
+      rw e at (held-true _ _ _ (passed (all-says _ _) sy j low) (passed (leb-says (getD b 1 0) j) (in-use .0))))
 
   -- the places are what `decode` reads
   slot-x : (j : ℕ) → j < 258 → (decode b) .x j ≡ quad b (2 + 4 * j)
@@ -90,7 +98,8 @@ module _ (t : Table) (big : t .size ≤ 256) (b : List ℕ) (len : length b ≡ 
                 ∙ (let e : 2 + 4 * (i / 4) + i % 4 ≡ suc (suc i) = omega arith in ap (λ (q : ℕ). getD b q 0) e)
             | inr h ↦ let w : ℕ = i - 1032 in
                 at-y (decode b) ((i - 1032) / 4) ((i - 1032) % 4) (suc (suc i)) (omega arith) (omega arith) (omega arith)
-                ∙ ap (λ (z : Set). getD z ((i - 1032) % 4) 0) (slot-y ((i - 1032) / 4) (omega arith)) ∙ quad-at b (1034 + 4 * ((i - 1032) / 4)) ((i - 1032) % 4) (omega arith)
+                ∙ ap (λ (z : Set). getD z ((i - 1032) % 4) 0) (slot-y ((i - 1032) / 4) (omega arith))
+                ∙ quad-at b (1034 + 4 * ((i - 1032) / 4)) ((i - 1032) % 4) (omega arith)
                 ∙ (let e : 1034 + 4 * ((i - 1032) / 4) + (i - 1032) % 4 ≡ suc (suc i) = omega arith in ap (λ (q : ℕ). getD b q 0) e)
           ]
 
@@ -118,9 +127,12 @@ module _ (t : Table) (big : t .size ≤ 256) (b : List ℕ) (len : length b ≡ 
 pub fit-by : (t : Table) → t .size ≤ 256 → (b : List ℕ) → length b ≡ 2066 → ((i : ℕ) → getD b i 0 < 2 ^ 64) → entryCheck t b ≡ true → Fit t b
 unfolding entryCheck
 fit-by t big b len words ok =
-    let p = each-true (tests t b) ok in
-    let r = ranges-say t (decode b) (p .1 .1 .0) in
-    record { held = held-by t big b len words (p .0) (p .1 .0) (omega (arith, r .1)); inv = entry-inv t (decode b) (true-each (conditions t (decode b)) (p .1 .1)) }
+    let (in-ranges, (clear, (sx, (sy, (is-chain, (are-obstacles, _)))))) = each-true (entryTests t b (decode b)) ok in
+    let (_, cap, _, _) = ranges-say (t .size) (decode b) in-ranges in
+    record {
+      held = held-by t big b len words clear sx sy (omega arith);
+      inv = entry-inv t (decode b) (true-each (conditions t (decode b)) (in-ranges, (is-chain, (are-obstacles, tt))));
+    }
 
 -- a state that the rules keep makes a buffer that fits
 module _ (t : Table) (big : t .size ≤ 256) (s : State) (v : Invariant t s) (m : Normal (t .size) s) where
@@ -146,10 +158,10 @@ module _ (t : Table) (big : t .size ≤ 256) (s : State) (v : Invariant t s) (m 
     | inr a ↦ rw (proper-past N le h i a)
   ])
 
-  -- in use or not
-  kept-at : (c : Bool) (x : Set) → Proper (t .size) x → (c ≡ false → x ≡ empty) → sound (cond c (t .size) 0) x ≡ true
-  kept-at true x o h = sound-of (t .size) big x o
-  kept-at false x o h = rw (h refl) (sound-of 0 (omega arith) empty (proper-empty 0 (omega arith)))
+  -- a place not in use
+  clear-at : (c : Bool) (x : Set) → (c ≡ false → x ≡ empty) → (c || sound 0 x) ≡ true
+  clear-at true x h = refl
+  clear-at false x h = rw (h refl) (sound-of 0 (omega arith) empty (proper-empty 0 (omega arith)))
 
   gone-x : (j : ℕ) → ltb j (s .n) ≡ false → s .x j ≡ empty
   gone-x j e = m .x-end j (let h : s .n < suc j = failed (leb-says (suc j) (s .n)) e in omega arith)
@@ -162,17 +174,27 @@ module _ (t : Table) (big : t .size ≤ 256) (s : State) (v : Invariant t s) (m 
       go (pass h) (fail k) q = m .y-end j (omega arith)
       go (pass h) (pass k) q = absurd (true≢false q)
 
-  kept-x : (j : ℕ) → j < 258 → keptX (t .size) (encode s) j ≡ true
-  unfolding keptX
-  kept-x j l = rw (encode-n s, quad-x (t .size) s m room j l) (kept-at (ltb j (s .n)) (s .x j) (m .proper-x j) (gone-x j))
+  clear-x : (j : ℕ) → j < 258 → clearX (encode s) j ≡ true
+  unfolding clearX
+  clear-x j l = rw (encode-n s, quad-x (t .size) s m room j l) (clear-at (ltb j (s .n)) (s .x j) (gone-x j))
 
-  kept-y : (j : ℕ) → j < 258 → keptY (t .size) (encode s) j ≡ true
-  unfolding keptY
-  kept-y j l = rw (encode-n s, encode-k s, quad-y (t .size) s m room j l) (kept-at (leb (s .k) j && ltb j (s .n)) (s .y j) (m .proper-y j) (gone-y j))
+  clear-y : (j : ℕ) → j < 258 → clearY (encode s) j ≡ true
+  unfolding clearY
+  clear-y j l = rw (encode-n s, encode-k s, quad-y (t .size) s m room j l) (clear-at (leb (s .k) j && ltb j (s .n)) (s .y j) (gone-y j))
 
-  entry-tests : Each (conditions t s)
-  entry-tests = each-true (conditions t s) (inv-entry t s v)
+  clears : unused (encode s) ≡ true
+  unfolding unused
+  clears = true-each _ (all-true clear-x, (all-true clear-y, tt))
+
+  sound-x : soundX (t .size) s (s .n) ≡ true
+  sound-x = all-true (λ j l. sound-of (t .size) big (s .x j) (m .proper-x j))
+
+  sound-y : soundY (t .size) s ≡ true
+  sound-y = all-true (λ j l. true-held _ _ _ (λ h. sound-of (t .size) big (s .y j) (m .proper-y j)))
 
   pub kept-accepts : entryCheck t (encode s) ≡ true
   unfolding entryCheck
-  kept-accepts = true-each (tests t (encode s)) (all-true kept-x, (all-true kept-y, rw (held-back t big s v m) entry-tests))
+  kept-accepts =
+      rw (held-back t big s v m)
+      (let (in-ranges, (is-chain, (are-obstacles, _))) = each-true (conditions t s) (inv-entry t s v) in
+      true-each (entryTests t (encode s) s) (in-ranges, (clears, (sound-x, (sound-y, (is-chain, (are-obstacles, tt)))))))

@@ -13,7 +13,8 @@ use Rattle.rules.specs.Rules.{put, cut, due, allowed, house, fire, State
 use Rattle.rules.specs.Table.{f, g, Table}
 use Rattle.sets.proofs.Count.{count-lt, count-max}
 use Rattle.sets.proofs.Tests.{and-true, not-true, eqb-says, lt-or-ge, Says, pass, fail}
-use Rattle.sets.proofs.Within.{within-says, is-within, is-beyond, not-both, within-true, within-false, not-within, within-refl, within-trans, within-full, meet-left, meet-right, within-meet, Within, Beyond}
+use Rattle.sets.proofs.Within.{within-says, is-within, is-beyond, not-both, within-true, within-false, not-within, within-refl, within-trans}
+use Rattle.sets.proofs.Within.{within-full, meet-left, meet-right, within-meet, Within, Beyond}
 use Rattle.sets.specs.Sets.{Set, empty, full, within, meet, count}
 
 module _ (t : Table) where
@@ -200,7 +201,8 @@ module _ (t : Table) where
         ]
 
     -- what lies within x_j, and within z where j is up to k, lies within the cut
-    cut-in : (x : ℕ → Set) (k : ℕ) (z : Set) (j : ℕ) (w : Set) → Within (t .size) w (x j) → (j ≤ k → Within (t .size) w z) → Within (t .size) w (cut (t .size) x k z j)
+    cut-in : (x : ℕ → Set) (k : ℕ) (z : Set) (j : ℕ) (w : Set) → Within (t .size) w (x j) → (j ≤ k → Within (t .size) w z)
+        → Within (t .size) w (cut (t .size) x k z j)
     cut-in x k z j w h h′ =
         elim (lt-or-ge k j) [
           | inl l ↦ rw (cut-high (t .size) x k z j l) h

@@ -14,4 +14,3 @@ pub mod Loops
 pub mod Chains
 pub mod Published
 pub mod Demands
-pub mod Tried

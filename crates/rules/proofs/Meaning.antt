@@ -13,7 +13,7 @@ use Rattle.rules.proofs.Adjoint.{f-in, g-in}
 use Rattle.rules.proofs.Invariant.{Invariant}
 use Rattle.rules.proofs.Keep.{chain}
 use Rattle.rules.specs.Rules.{noRoom, concludes, closes, conclusion, conclusionOf, State, safe, reached}
-use Rattle.rules.specs.Runs.{orZero, firstState, nextState, walkFrom, walk}
+use Rattle.rules.specs.ShownWalk.{orZero, firstState, nextState, walkFrom, shownWalk}
 use Rattle.rules.specs.Table.{leads, g, Table}
 use Rattle.rules.specs.Walks.{move, Walked, Bad, BadReached, LeadsToBad, RealWalk, Closed, start, arrived, onward}
 use Rattle.sets.proofs.Search.{least-is, Least, here, nowhere}
@@ -79,7 +79,7 @@ module _ (t : Table) where
   leads-below (arrived b) = b .below
   leads-below (onward l e r) = l
 
-  -- a listed walk, from where a walk has come
+  -- a walk that is listed, from where a walk has come
   leads-walked : (m s : ℕ) (w : List ℕ) → Walked t (suc m) s → LeadsToBad t s w → (u : ℕ) × Walked t (m + length w) u × Bad t u
   leads-walked m s w p (arrived b) = let q : suc m ≡ m + 1 = omega arith in (s, rw q at p, b)
   leads-walked m s w p (onward {u = u} {w = w′} l e r) =
@@ -96,7 +96,8 @@ module _ (t : Table) where
     safe-closed s j v e =
         let a = safe-at s j e in
         let ins = within-trans (t .size) (v .base j (a .lt)) (a .is) in
-        let good = within-trans (t .size) (chain t s v j (s .n - 2) (omega (arith, a .lt)) (omega (arith, v .two))) (v .fine (s .n - 2) (omega (arith, v .two))) in
+        let last = v .fine (s .n - 2) (omega (arith, v .two)) in
+        let good = within-trans (t .size) (chain t s v j (s .n - 2) (omega (arith, a .lt)) (omega (arith, v .two))) last in
         let stay = within-trans (t .size) (v .flow j (a .lt)) (a .is) in
         record {
           starts = ins .at;
@@ -148,8 +149,8 @@ module _ (t : Table) where
         let r = next-picked (s .y (suc j)) a l (not-in (v .back j h (omega arith)) a l o) in
         onward l (r .1) (walk-leads s v m (suc j) _ (omega arith) (omega arith) (r .0) (r .2))
 
-    pub reached-real : (s : State) → Invariant t s → conclusion t s ≡ reached → RealWalk t (walk t s)
-    unfolding walk firstState
+    pub reached-real : (s : State) → Invariant t s → conclusion t s ≡ reached → RealWalk t (shownWalk t s)
+    unfolding shownWalk firstState
     reached-real s v e =
         let r = reached-at s e in
         let w = r .1 in
@@ -167,8 +168,8 @@ module _ (t : Table) where
     length-from zero a j y = refl
     length-from (suc m) a j y = ap suc (length-from m _ (suc j) y)
 
-    pub walk-length : (s : State) → length (walk t s) ≡ s .n - 1
-    unfolding walk
+    pub walk-length : (s : State) → length (shownWalk t s) ≡ s .n - 1
+    unfolding shownWalk
     walk-length s = length-from (s .n - 1) _ 1 (s .y)
 
     pub reached-bad : (s : State) → Invariant t s → conclusion t s ≡ reached → (u : ℕ) × Walked t (s .n - 1) u × Bad t u

@@ -63,7 +63,8 @@ module _ (t : Table) (big : t .size ≤ 256) where
         y-low = λ j l. refl;
       }
 
-  pub fire-normal : (r : Rule) (s : State) (z : Set) → Invariant t s → Normal (t .size) s → Due t s r → Proper (t .size) z → Normal (t .size) (fire (t .size) r s z)
+  pub fire-normal : (r : Rule) (s : State) (z : Set) → Invariant t s → Normal (t .size) s → Due t s r → Proper (t .size) z
+      → Normal (t .size) (fire (t .size) r s z)
   unfolding fire
   fire-normal Unfold s z v m (isUnfold p h) o =
       record {

@@ -11,7 +11,7 @@ use Rattle.rules.proofs.Keep.{due-is, Ok, allowed-ok, ok-allowed, Due, 
 use Rattle.rules.proofs.Meaning.{safe-at, never-noRoom, reached-at}
 use Rattle.rules.specs.Demands.{Steps, no-step, one-more}
 use Rattle.rules.specs.Published.{_⊑_, _⋢_, Fires, ConclusiveX, ConclusiveY, Step, by-unfold, by-candidate, by-decide, by-conflict}
-use Rattle.rules.specs.Rules.{noRoom, conclusion, due, allowed, fire, State, Result, Rule, safe, reached, unfinished}
+use Rattle.rules.specs.Rules.{noRoom, conclusion, due, allowed, fire, State, Standing, Rule, safe, reached, unfinished}
 use Rattle.rules.specs.Runs.{stop, after, next, run}
 use Rattle.rules.specs.Table.{Table}
 use Rattle.sets.proofs.Members.{member-join}
@@ -42,7 +42,7 @@ module _ (t : Table) where
   pub not-open : (s : State) → conclusion t s ≢ unfinished → (ConclusiveX t s) ⊎ (ConclusiveY t s)
   not-open s h = go (conclusion t s) refl
     where
-      go : (r : Result) → conclusion t s ≡ r → (ConclusiveX t s) ⊎ (ConclusiveY t s)
+      go : (r : Standing) → conclusion t s ≡ r → (ConclusiveX t s) ⊎ (ConclusiveY t s)
       go (safe j) e = let a = safe-at t s j e in inl (record { j = j; below = a .lt; is = to-⊑ (a .is) })
       go reached e = let a = reached-at t s e in inr (record { one = a .0; is = to-⋢ (a .1) })
       go noRoom e = absurd (never-noRoom t s e)
@@ -50,7 +50,11 @@ module _ (t : Table) where
 
   module _ (big : t .size ≤ 256) where
     both-in : (x y z : Set) → Within (t .size) x z → Within (t .size) y z → Within (t .size) (join (t .size) x y) z
-    both-in x y z h k = record { at = λ s l e. elim (or-true-or (member x s) (member y s) (sym (member-join (t .size) big x y s l) ∙ e)) [ inl p ↦ h .at s l p | inr p ↦ k .at s l p ] }
+    both-in x y z h k =
+        record {
+          at = λ s l e.
+              elim (or-true-or (member x s) (member y s) (sym (member-join (t .size) big x y s l) ∙ e)) [ inl p ↦ h .at s l p | inr p ↦ k .at s l p ];
+        }
       where
         or-true-or : (a b : Bool) → (a || b) ≡ true → (a ≡ true) ⊎ (b ≡ true)
         or-true-or true b e = inl refl

@@ -7,17 +7,13 @@ use lib.Dec.{ltb, leb}
 use lib.ListN.{getD}
 use Rattle.rules.specs.Rules.{state, State, safe}
 use Rattle.rules.specs.Table.{f, g, Table}
+use Rattle.sets.specs.Lists.{tabulate}
 use Rattle.sets.specs.Search.{all}
 use Rattle.sets.specs.Sets.{Set, empty, within, sound, quad, Proper}
 
--- the first m values of a function
-unfoldable pub listed : ℕ → (ℕ → ℕ) → List ℕ
-listed zero h = []
-listed (suc m) h = h 0 ∷ listed m (λ i. h (suc i))
-
 -- 258 sets, four words each
 unfoldable pub flat : (ℕ → Set) → List ℕ
-flat x = listed 1032 (λ i. getD (x (i / 4)) (i % 4) 0)
+flat x = tabulate 1032 (λ i. getD (x (i / 4)) (i % 4) 0)
 
 -- word 0 is n, word 1 is k, x_j starts at word 2 + 4·j, y_j at word 1,034 + 4·j
 unfoldable pub encode : State → List ℕ
@@ -35,21 +31,36 @@ unfoldable pub each : List Bool → Bool
 each [] = true
 each (b ∷ bs) = b && each bs
 
+-- ---- the entry check, in document 01's order
+-- n is 2 to N+2 and k is 1 to n
+unfoldable pub ranges : ℕ → State → Bool
+ranges N s = each (leb 2 (s .n) ∷ leb (s .n) (N + 2) ∷ leb 1 (s .k) ∷ leb (s .k) (s .n) ∷ [])
+
+-- every word not in use is 0
+module _ (b : List ℕ) where
+  unfoldable pub clearX : ℕ → Bool
+  clearX j = ltb j (getD b 0 0) || sound 0 (quad b (2 + 4 * j))
+
+  unfoldable pub clearY : ℕ → Bool
+  clearY j = (leb (getD b 1 0) j && ltb j (getD b 0 0)) || sound 0 (quad b (1034 + 4 * j))
+
+  unfoldable pub unused : Bool
+  unused = each (all 258 clearX ∷ all 258 clearY ∷ [])
+
 -- a condition on y_j, where it is held
 unfoldable pub held : ℕ → ℕ → Bool → Bool
 held k j b = not (leb k j) || b
 
-module _ (N : ℕ) (b : List ℕ) where
-  -- every word not in use is 0; no set has members from N up
-  unfoldable pub keptX : ℕ → Bool
-  keptX j = sound (cond (ltb j (getD b 0 0)) N 0) (quad b (2 + 4 * j))
+-- no set has members from N up: of x_0 .. x_(m-1), and of the held y
+abbrev pub soundX : ℕ → State → ℕ → Bool
+soundX N s m = all m (λ j. sound N (s .x j))
 
-  unfoldable pub keptY : ℕ → Bool
-  keptY j = sound (cond (leb (getD b 1 0) j && ltb j (getD b 0 0)) N 0) (quad b (1034 + 4 * j))
+abbrev pub soundY : ℕ → State → Bool
+soundY N s = all (s .n) (λ j. held (s .k) j (sound N (s .y j)))
 
--- n is 2 to N+2 and k is 1 to n
-unfoldable pub ranges : ℕ → State → Bool
-ranges N s = each (leb 2 (s .n) ∷ leb (s .n) (N + 2) ∷ leb 1 (s .k) ∷ leb (s .k) (s .n) ∷ [])
+-- y_(n-1), if held, contains P
+abbrev pub topped : ℕ → Set → State → Bool
+topped N P s = held (s .k) (s .n - 1) (within N P (s .y (s .n - 1)))
 
 -- x_j is not within its held y_j
 unfoldable pub parts : ℕ → State → ℕ → Bool
@@ -68,41 +79,24 @@ module _ (t : Table) (s : State) where
   unfoldable pub falls : ℕ → Bool
   falls j = held (s .k) j (within (t .size) (g t (s .y (suc j))) (s .y j))
 
-  -- the chain rises all the way
-  abbrev pub rising : Bool
-  rising = all (s .n - 1) rises
+  -- of x_0 .. x_(m-1): x_0 is empty; each x_j, I and f(x_j) are within x_(j+1); x_(m-2) is within P
+  unfoldable pub chain : ℕ → Bool
+  chain m = each (within (t .size) (s .x 0) empty ∷ all (m - 1) rises ∷ within (t .size) (s .x (m - 2)) (t .safe) ∷ [])
 
-  -- each held y falls to the one before
-  abbrev pub falling : Bool
-  falling = all (s .n - 1) falls
+  -- of y_k .. y_(n-1): y_(n-1) contains P; g(y_(j+1)) is within y_j; no x_j is within y_j
+  unfoldable pub obstacles : Bool
+  obstacles = each (topped (t .size) (t .safe) s ∷ all (s .n - 1) falls ∷ all (s .n) (parts (t .size) s) ∷ [])
 
--- no x_j is within its held y_j
-abbrev pub apart : ℕ → State → Bool
-apart N s = all (s .n) (parts N s)
-
--- y_(n-1), if held, contains P
-abbrev pub topped : ℕ → Set → State → Bool
-topped N P s = held (s .k) (s .n - 1) (within N P (s .y (s .n - 1)))
-
-module _ (t : Table) (s : State) where
-  -- x_0 is empty; the chain rises; x_(n-2) is within P; y_(n-1), if held, contains P; y falls; no x_j is within its y_j
-  abbrev pub orders : List Bool
-  orders =
-      within (t .size) (s .x 0) empty
-      ∷ rising t s
-      ∷ within (t .size) (s .x (s .n - 2)) (t .safe)
-      ∷ topped (t .size) (t .safe) s
-      ∷ falling t s
-      ∷ apart (t .size) s
-      ∷ []
-
-  -- n and k are in range, and all of these
+  -- what is asked of n, k and the order of the sets
   abbrev pub conditions : List Bool
-  conditions = ranges (t .size) s ∷ orders
+  conditions = ranges (t .size) s ∷ chain (s .n) ∷ obstacles ∷ []
 
 -- the entry check of a buffer of 2,066 words
+abbrev pub entryTests : Table → List ℕ → State → List Bool
+entryTests t b s = ranges (t .size) s ∷ unused b ∷ soundX (t .size) s (s .n) ∷ soundY (t .size) s ∷ chain t s (s .n) ∷ obstacles t s ∷ []
+
 unfoldable pub entryCheck : Table → List ℕ → Bool
-entryCheck t b = each (all 258 (keptX (t .size) b) ∷ all 258 (keptY (t .size) b) ∷ conditions t (decode b))
+entryCheck t b = each (entryTests t b (decode b))
 
 -- the sets of a state hold no members from N up, and are empty where none is held
 pub record Normal (N : ℕ) (s : State) : Type 0 where

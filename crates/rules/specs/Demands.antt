@@ -7,19 +7,20 @@ use mathlib.Core.Path.{_≡_}
 use lib.ListN.{length}
 use Rattle.rules.specs.Buffer.{encode, each, conditions, entryCheck, Normal}
 use Rattle.rules.specs.Published.{Step}
-use Rattle.rules.specs.Rules.{fresh, conclusion, due, allowed, house, fire, State, Result, Rule, safe, reached, unfinished}
-use Rattle.rules.specs.Runs.{andThen, choose, run, walk, Outcome}
+use Rattle.rules.specs.Rules.{fresh, conclusion, due, allowed, house, fire, State, Standing, Rule, safe, reached, unfinished}
+use Rattle.rules.specs.Runs.{followedBy, choose, run, Ran}
+use Rattle.rules.specs.ShownWalk.{shownWalk}
 use Rattle.rules.specs.Table.{f, g, Table}
 use Rattle.rules.specs.Walks.{Walked, Bad, BadReached, RealWalk, Closed}
 use Rattle.sets.specs.Sets.{Set, within, Proper}
 
 -- a run that ended: it says safe, or it says reached
-pub data Ended : Result → Type 0 where
+pub data Ended : Standing → Type 0 where
   ended-safe : (j : ℕ) → Ended (safe j)
   ended-reached : Ended reached
 
 -- the same verdict
-pub data Same : Result → Result → Type 0 where
+pub data Same : Standing → Standing → Type 0 where
   same-safe : (i j : ℕ) → Same (safe i) (safe j)
   same-reached : Same reached reached
 
@@ -63,7 +64,7 @@ module _ (t : Table) where
         → Steps (1 + m) ((choose t hints s) .taken + taken) ((choose t hints s) .used + used) hints s left s″
 
   module _ (s : State) (b : ℕ) (hints : List Set) where
-    abbrev pub after-run : Outcome
+    abbrev pub after-run : Ran
     after-run = run t b hints s
 
     -- demand 2
@@ -71,33 +72,33 @@ module _ (t : Table) where
       -- the rules fired are those published, with the choices that the hints make, and the numbers are as reported
       pub rules-published : Steps (after-run .rules) (after-run .taken) (after-run .used) hints s (after-run .left) (after-run .state)
       -- safe: the reason holds every start, no bad state, and every move out of its own members
-      pub safe-reason : (j : ℕ) → after-run .result ≡ safe j → Closed t (after-run .state .x j)
+      pub safe-reason : (j : ℕ) → after-run .standing ≡ safe j → Closed t (after-run .state .x j)
       -- reached: it shows a real walk
-      pub reached-walk : after-run .result ≡ reached → RealWalk t (walk t (after-run .state))
+      pub reached-walk : after-run .standing ≡ reached → RealWalk t (shownWalk t (after-run .state))
       -- a run that ends says safe exactly when no bad state can be reached
-      pub exactly : Ended (after-run .result) → ((j : ℕ) × (after-run .result ≡ safe j)) ↔ (BadReached t → ⊥)
+      pub exactly : Ended (after-run .standing) → ((j : ℕ) × (after-run .standing ≡ safe j)) ↔ (BadReached t → ⊥)
 
     -- demand 3
     pub record Demand3 : Type 0 where
       -- it ends if the budget allows 2·N·N + 2·N rules, and never fires more
-      pub ends : bound (t .size) ≤ b → Ended (after-run .result)
+      pub ends : bound (t .size) ≤ b → Ended (after-run .standing)
       pub in-bound : after-run .rules ≤ bound (t .size)
       -- it fires at most the budget's number of rules
       pub in-budget : after-run .rules ≤ b
       -- the verdict of a run that ends is the same for all hints, budgets and runs that pass the entry check
-      pub same : (s′ : State) (b′ : ℕ) (hints′ : List Set) → Passes s′ → Ended (after-run .result) → Ended ((run t b′ hints′ s′) .result)
-          → Same (after-run .result) ((run t b′ hints′ s′) .result)
+      pub same : (s′ : State) (b′ : ℕ) (hints′ : List Set) → Passes s′ → Ended (after-run .standing) → Ended ((run t b′ hints′ s′) .standing)
+          → Same (after-run .standing) ((run t b′ hints′ s′) .standing)
       -- a walk shown has the fewest states of any walk from a start to a bad state
-      pub fewest : after-run .result ≡ reached → (m u : ℕ) → Walked t m u → Bad t u → length (walk t (after-run .state)) ≤ m
+      pub fewest : after-run .standing ≡ reached → (m u : ℕ) → Walked t m u → Bad t u → length (shownWalk t (after-run .state)) ≤ m
 
     -- hints and budget
     pub record Budget : Type 0 where
       -- b, then c with the hints that remain, ends as b + c does, the numbers added
-      pub split : (c : ℕ) → run t (b + c) hints s ≡ andThen after-run (run t c (after-run .left) (after-run .state))
+      pub split : (c : ℕ) → run t (b + c) hints s ≡ followedBy after-run (run t c (after-run .left) (after-run .state))
       -- unfinished exactly when the rules under these hints need more than the budget
-      pub unfinished-exactly : (c : ℕ) → Ended ((run t (b + c) hints s) .result) → (after-run .result ≡ unfinished) ↔ (b < (run t (b + c) hints s) .rules)
+      pub unfinished-exactly : (c : ℕ) → Ended ((run t (b + c) hints s) .standing) → (after-run .standing ≡ unfinished) ↔ (b < (run t (b + c) hints s) .rules)
       -- a budget of 0 on a concluded run gives the verdict
-      pub concluded-at-once : conclusion t s ≢ unfinished → (run t 0 hints s) .result ≡ conclusion t s
+      pub concluded-at-once : conclusion t s ≢ unfinished → (run t 0 hints s) .standing ≡ conclusion t s
 
   -- a buffer of 2,066 words passes the entry check exactly when it holds a state that meets the conditions, and then one
   pub record Encoding (b : List ℕ) : Type 0 where

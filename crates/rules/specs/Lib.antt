@@ -3,7 +3,7 @@ pub mod Walks
 pub mod Rules
 pub mod Published
 pub mod Runs
+pub mod ShownWalk
 pub mod Single
 pub mod Buffer
 pub mod Demands
-pub mod Tried

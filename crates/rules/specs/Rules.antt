@@ -26,11 +26,11 @@ unfoldable pub cut : ℕ → (ℕ → Set) → ℕ → Set → ℕ → Set
 cut N x k z j = cond (leb j k) (meet N (x j) z) (x j)
 
 -- how a run stands; no room: Unfold is due and there is no place for another set
-pub data Result : Type 0 where
-  safe : ℕ → Result
-  reached : Result
-  unfinished : Result
-  noRoom : Result
+pub data Standing : Type 0 where
+  safe : ℕ → Standing
+  reached : Standing
+  unfinished : Standing
+  noRoom : Standing
 
 pub data Rule : Type 0 where
   Unfold : Rule
@@ -39,7 +39,7 @@ pub data Rule : Type 0 where
   Conflict : Rule
 
 -- safe at the j found; else reached, if so
-unfoldable pub concludes : Option ℕ → Bool → Result
+unfoldable pub concludes : Option ℕ → Bool → Standing
 concludes (some j) b = safe j
 concludes none true = reached
 concludes none false = unfinished
@@ -53,7 +53,7 @@ unfoldable pub closes : ℕ → State → ℕ → Bool
 closes N s j = within N (s .x (suc j)) (s .x j)
 
 -- the smallest j from 0 to n-2 that closes; k = 1 and I not within y_1
-unfoldable pub conclusionOf : ℕ → Set → State → Result
+unfoldable pub conclusionOf : ℕ → Set → State → Standing
 conclusionOf N I s = concludes (least (s .n - 1) (closes N s)) (eqb (s .k) 1 && not (within N I (s .y 1)))
 
 -- z contains low and does not contain x
@@ -83,7 +83,7 @@ module _ (t : Table) where
   abbrev pub fresh : State
   fresh = freshOf (t .size)
 
-  abbrev pub conclusion : State → Result
+  abbrev pub conclusion : State → Standing
   conclusion s = conclusionOf (t .size) (t .starts) s
 
   -- y empty: x_(n-1) within P or not; y not empty: f(x_(k-1)) within y_k or not

@@ -1,14 +1,12 @@
--- Hints and budget: what a rule takes of the hints, and a run of at most so many rules. The walk of a reached run.
-use Prim.Native.Nat.{ℕ, zero, suc, _+_, _-_}
+-- Hints and budget: what a rule takes of the hints, and a run of at most so many rules.
+use Prim.Native.Nat.{ℕ, zero, suc, _+_}
 use mathlib.Core.Bool.{Bool, true, false, not, _&&_}
 use mathlib.Core.List.{List, [], _∷_}
-use mathlib.Core.Option.{Option, none, some}
-use denote.Struct.Rest.{rest}
 use lib.Dec.{eqb}
-use Rattle.rules.specs.Rules.{noRoom, conclusion, due, allowed, house, fire, State, Result, Rule, safe, reached, unfinished, Unfold, Candidate, Decide, Conflict}
-use Rattle.rules.specs.Table.{leads, Table}
-use Rattle.sets.specs.Search.{least}
-use Rattle.sets.specs.Sets.{Set, member, sound}
+use Rattle.rules.specs.Rules.{noRoom, conclusion, due, allowed, house, fire, State, Standing, Rule, safe, reached, unfinished, Unfold}
+use Rattle.rules.specs.Rules.{Candidate, Decide, Conflict}
+use Rattle.rules.specs.Table.{Table}
+use Rattle.sets.specs.Sets.{Set, sound}
 
 -- Candidate, Decide and Conflict take a hint
 unfoldable pub asks : Rule → Bool
@@ -39,9 +37,9 @@ pick false hints will house = record { set = house; left = hints; taken = 0; use
 pick true [] will house = record { set = house; left = []; taken = 0; used = 0 }
 pick true (hint ∷ rest) will house = offered (will hint) hint house rest
 
--- what a run answers: how it stands, the rules fired, the hints taken, used and left, and the state that it leaves
-pub record Outcome : Type 0 where
-  pub result : Result
+-- what a run came to: how it stands, the rules fired, the hints taken, used and left, and the state that it leaves
+pub record Ran : Type 0 where
+  pub standing : Standing
   pub rules : ℕ
   pub taken : ℕ
   pub used : ℕ
@@ -49,14 +47,14 @@ pub record Outcome : Type 0 where
   pub state : State
 
 -- nothing fired
-unfoldable pub stop : Result → List Set → State → Outcome
-stop r hints s = record { result = r; rules = 0; taken = 0; used = 0; left = hints; state = s }
+unfoldable pub stop : Standing → List Set → State → Ran
+stop r hints s = record { standing = r; rules = 0; taken = 0; used = 0; left = hints; state = s }
 
 -- one rule, and then what followed
-unfoldable pub after : Choice → Outcome → Outcome
+unfoldable pub after : Choice → Ran → Ran
 after c o =
     record {
-      result = o .result;
+      standing = o .standing;
       rules = 1 + o .rules;
       taken = c .taken + o .taken;
       used = c .used + o .used;
@@ -64,22 +62,17 @@ after c o =
       state = o .state;
     }
 
--- one outcome after another, the numbers added
-unfoldable pub andThen : Outcome → Outcome → Outcome
-andThen o p =
+-- a run, and then one more from where it stopped, the numbers added
+unfoldable pub followedBy : Ran → Ran → Ran
+followedBy o p =
     record {
-      result = p .result;
+      standing = p .standing;
       rules = o .rules + p .rules;
       taken = o .taken + p .taken;
       used = o .used + p .used;
       left = p .left;
       state = p .state;
     }
-
--- what was found, or 0
-unfoldable pub orZero : Option ℕ → ℕ
-orZero (some s) = s
-orZero none = 0
 
 module _ (t : Table) where
   -- no members from N up, and the rule due allows it
@@ -98,7 +91,7 @@ module _ (t : Table) where
   lacksRoom s = lacksRoomFor (due t s) (s .n)
 
   -- at most b rules; the conclusion is tested before the budget
-  unfoldable pub run : ℕ → List Set → State → Outcome
+  unfoldable pub run : ℕ → List Set → State → Ran
   run zero hints s = stop (conclusion t s) hints s
   run (suc b) hints s =
       elim (conclusion t s) [
@@ -110,20 +103,3 @@ module _ (t : Table) where
           | false ↦ after (choose hints s) (run b ((choose hints s) .left) (next (choose hints s) s))
         ]
       ]
-
-  -- the smallest start outside y
-  unfoldable pub firstState : Set → ℕ
-  firstState y = orZero (least (t .size) (λ u. member (t .starts) u && not (member y u)))
-
-  -- the smallest next state by a move that lies outside y
-  unfoldable pub nextState : ℕ → Set → ℕ
-  nextState s y = orZero (least (t .size) (λ u. leads (t .rows) s u && not (member y u)))
-
-  -- m states from s on, whose place in the walk is j
-  unfoldable pub walkFrom : ℕ → ℕ → ℕ → (ℕ → Set) → List ℕ
-  walkFrom zero s j y = []
-  walkFrom (suc m) s j y = s ∷ walkFrom m (nextState s (y (suc j))) (suc j) y
-
-  -- n-1 states: the smallest start outside y_1, then each time the smallest next state outside the next y
-  unfoldable pub walk : State → List ℕ
-  walk s = walkFrom (s .n - 1) (firstState (s .y 1)) 1 (s .y)

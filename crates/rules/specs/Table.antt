@@ -3,8 +3,9 @@ use Prim.Native.Nat.{ℕ, _*_}
 use mathlib.Core.Bool.{Bool, not, _&&_, _||_, cond}
 use mathlib.Core.List.{List}
 use lib.Dec.{ltb}
-use Rattle.sets.specs.Search.{any, all}
-use Rattle.sets.specs.Sets.{Set, member, setOf, sound, quad}
+use lib.Seq.{sets}
+use Rattle.sets.specs.Search.{any, all, sum}
+use Rattle.sets.specs.Sets.{Set, member, setOf, sound, with, count, quad}
 
 -- `size` is N, `starts` is I, `safe` is P; `rows` is the move table of 1,024 words
 pub record Table : Type 0 where
@@ -23,6 +24,14 @@ row rows s = quad rows (4 * s)
 -- there is a move from s to u
 unfoldable pub leads : List ℕ → ℕ → ℕ → Bool
 leads rows s u = member (row rows s) u
+
+-- the number of moves, row by row
+unfoldable pub moveCount : List ℕ → ℕ
+moveCount rows = sum 256 (λ s. count 256 (row rows s))
+
+-- a move table with the move from s to u
+unfoldable pub withMove : List ℕ → ℕ → ℕ → List ℕ
+withMove rows s u = sets rows (4 * s) (with 256 (row rows s) u)
 
 -- row s holds no number from N up; it is empty where s is from N up
 unfoldable pub soundRow : ℕ → List ℕ → ℕ → Bool

@@ -9,10 +9,11 @@ use mathlib.Core.Path.{_≡_, refl, sym, ap, _∙_}
 use lib.Dec.{eqb}
 use lib.ListN.{length, getD}
 use lib.Seq.{sets, length-sets, ext-getD}
+use Rattle.answers.proofs.Order.{refuses, goes-on}
 use Rattle.answers.specs.Answer.{given, refused}
 use Rattle.answers.specs.Refusals.{notAllowed, alreadyConcluded}
 use Rattle.entries.specs.Refusal.{entryRefusal}
-use Rattle.rules.proofs.Budget.{run-result, run-keeps}
+use Rattle.rules.proofs.Budget.{run-standing, run-keeps}
 use Rattle.rules.proofs.Ends.{has-room}
 use Rattle.rules.proofs.Held.{held-back, fit-of}
 use Rattle.rules.proofs.Invariant.{Open, Invariant}
@@ -21,9 +22,10 @@ use Rattle.rules.proofs.Normal.{run-normal}
 use Rattle.rules.proofs.Reading.{x-is, k-is}
 use Rattle.rules.proofs.Ready.{Words64, Ready, ready-by}
 use Rattle.rules.specs.Buffer.{encode, decode, Normal}
-use Rattle.rules.specs.Rules.{noRoom, conclusion, conclusionOf, due, fire, State, Result, Rule, safe, reached, unfinished}
+use Rattle.rules.specs.Rules.{noRoom, conclusion, conclusionOf, due, fire, State, Standing, Rule, safe, reached, unfinished}
 use Rattle.rules.specs.Runs as runs
-use Rattle.rules.specs.Runs.{lacksRoom, lacksRoomFor, run, walk}
+use Rattle.rules.specs.Runs.{lacksRoom, lacksRoomFor, run}
+use Rattle.rules.specs.ShownWalk.{shownWalk}
 use Rattle.rules.specs.Single.{takes, single, Fired}
 use Rattle.rules.specs.Table.{Table}
 use Rattle.runs.proofs.Choices.{hints-words}
@@ -32,9 +34,9 @@ use Rattle.runs.proofs.Steps.{lacks-none, fireable}
 use Rattle.runs.proofs.Stores.{getD-sets-in}
 use Rattle.runs.proofs.Walks.{reached-short}
 use Rattle.runs.specs.Hints.{hintsAt}
-use Rattle.runs.specs.Inner.{Stands, IsDue, Fireable, Ended, Finished, refusedAnswer}
+use Rattle.runs.specs.Inner.{Stands, IsDue, Fireable, RanTo, Finished, refusedAnswer}
 use Rattle.runs.specs.Promises.{runRefusal, singleAnswer, singleBuffer, lengthsOk, runAnswer, ran, setAfter, walkAfter, SingleAnswered, Answered}
-use Rattle.runs.specs.Said.{standingOf, isOpen, asRule, asResult}
+use Rattle.runs.specs.Said.{standingOf, isOpen, asRule, asStanding}
 use Rattle.runs.specs.declared.Asked as asked
 use Rattle.runs.specs.declared.Outcome as outcome
 use Rattle.runs.specs.declared.Rule as code
@@ -67,7 +69,7 @@ module _ (t : Table) (z : Set) (b : List ℕ) (v : Ready t b) (w : standing.Stan
       done : single t (decode b) z ≡ refused alreadyConcluded
       done = go (conclusion t (decode b)) refl
         where
-          go : (c : Result) → conclusion t (decode b) ≡ c → single t (decode b) z ≡ refused alreadyConcluded
+          go : (c : Standing) → conclusion t (decode b) ≡ c → single t (decode b) z ≡ refused alreadyConcluded
           go (safe j) q = rw (q, single)
           go reached q = rw (q, single)
           go noRoom q = rw (q, single)
@@ -106,17 +108,17 @@ module _ (t : Table) (z : Set) (b : List ℕ) (v : Ready t b) (w : standing.Stan
 module _ (t : Table) (b : List ℕ) (w : standing.Standing) (v : Ready t b) (s : Stands t b w) where
   -- safe: x_j has its place
   pub safe-below : (j : ℕ) → w ≡ standing.the-variants.Safe j → j + 1 < getD b 0 0
-  unfolding decode asResult
-  safe-below j e = omega (arith, (safe-at t (decode b) j (stands-as t b w s ∙ ap asResult e)) .lt)
+  unfolding decode asStanding
+  safe-below j e = omega (arith, (safe-at t (decode b) j (stands-as t b w s ∙ ap asStanding e)) .lt)
 
   -- reached: the walk has its place, and y_1 is held
   pub reached-few : w ≡ standing.the-variants.Reached → getD b 0 0 ≤ 257
-  unfolding asResult
-  reached-few e = reached-short t (v .good) b (v .fit) (stands-as t b w s ∙ ap asResult e)
+  unfolding asStanding
+  reached-few e = reached-short t (v .good) b (v .fit) (stands-as t b w s ∙ ap asStanding e)
 
   pub reached-held : w ≡ standing.the-variants.Reached → getD b 1 0 ≤ 1
-  unfolding asResult
-  reached-held e = omega (arith, k-is b, (reached-at t (decode b) (stands-as t b w s ∙ ap asResult e)) .0)
+  unfolding asStanding
+  reached-held e = omega (arith, k-is b, (reached-at t (decode b) (stands-as t b w s ∙ ap asStanding e)) .0)
 
 -- one arm for each way that the run stands
 module _ (t : Table) (b : List ℕ) (r : Ran) (set walk : List ℕ) (v : Ready t b) (s : Stands t b (r .standing)) where
@@ -125,9 +127,9 @@ module _ (t : Table) (b : List ℕ) (r : Ran) (set walk : List ℕ) (v : Ready t
 
   pub finish-safe : (j : ℕ) (x : Set) (set′ : List ℕ) → r .standing ≡ standing.the-variants.Safe j → x ≡ quad b (2 + 4 * j) → length x ≡ 4 → length set ≡ 4
       → set′ ≡ sets set 0 x → Finished t b r (ans (outcome.the-variants.Safe j)) set set′ walk walk
-  unfolding runAnswer setAfter walkAfter asResult
+  unfolding runAnswer setAfter walkAfter asStanding
   finish-safe j x set′ e ex fx fs es =
-      let c : conclusion t (decode b) ≡ safe j = stands-as t b _ s ∙ ap asResult e in
+      let c : conclusion t (decode b) ≡ safe j = stands-as t b _ s ∙ ap asStanding e in
       let q : set′ ≡ (decode b) .x j = es ∙ sets-all set x fs fx ∙ ex ∙ x-is b j _ refl (omega (arith, safe-below t b _ v s j e)) in
       record { outcome = rw c; fired = refl; took = refl; uses = refl; set-is = rw c q; walk-is = rw c }
     where
@@ -137,25 +139,25 @@ module _ (t : Table) (b : List ℕ) (r : Ran) (set walk : List ℕ) (v : Ready t
           (λ i h. let e : length (sets l 0 x) ≡ length l = length-sets l 0 x in
           ap (λ (k : ℕ). getD (sets l 0 x) k 0) (sym (zero-add i)) ∙ getD-sets-in x l 0 i (omega arith) (omega arith))
 
-  pub finish-reached : (walk′ : List ℕ) → r .standing ≡ standing.the-variants.Reached → walk′ ≡ sets walk 0 (runs.walk t (decode b))
+  pub finish-reached : (walk′ : List ℕ) → r .standing ≡ standing.the-variants.Reached → walk′ ≡ sets walk 0 (shownWalk t (decode b))
       → Finished t b r (ans (outcome.the-variants.Reached (getD b 0 0 - 1))) set set walk walk′
-  unfolding runAnswer setAfter walkAfter decode asResult
+  unfolding runAnswer setAfter walkAfter decode asStanding
   finish-reached walk′ e q =
-      let c : conclusion t (decode b) ≡ reached = stands-as t b _ s ∙ ap asResult e in
+      let c : conclusion t (decode b) ≡ reached = stands-as t b _ s ∙ ap asStanding e in
       record { outcome = rw c; fired = refl; took = refl; uses = refl; set-is = rw c; walk-is = rw c q }
 
   pub finish-open : r .standing ≡ standing.the-variants.Unfinished → Finished t b r (ans outcome.the-variants.Unfinished) set set walk walk
-  unfolding runAnswer setAfter walkAfter asResult
+  unfolding runAnswer setAfter walkAfter asStanding
   finish-open e =
-      let c : conclusion t (decode b) ≡ unfinished = stands-as t b _ s ∙ ap asResult e in
+      let c : conclusion t (decode b) ≡ unfinished = stands-as t b _ s ∙ ap asStanding e in
       record { outcome = rw c; fired = refl; took = refl; uses = refl; set-is = rw c; walk-is = rw c }
 
   pub finish-never : (a : answer.RunAnswer) → r .standing ≡ standing.the-variants.NoRoom → Finished t b r a set set walk walk
-  unfolding asResult
-  finish-never a e = absurd (never-noRoom t (decode b) (stands-as t b _ s ∙ ap asResult e))
+  unfolding asStanding
+  finish-never a e = absurd (never-noRoom t (decode b) (stands-as t b _ s ∙ ap asStanding e))
 
 -- ---- a run
-pub run-refused : (t : Table) (n m : ℕ) (o : runs.Outcome) (b set walk : List ℕ) (a : answer.RunAnswer) → a ≡ refusedAnswer n → n ≡ m → (n ≡ 0 → ⊥)
+pub run-refused : (t : Table) (n m : ℕ) (o : runs.Ran) (b set walk : List ℕ) (a : answer.RunAnswer) → a ≡ refusedAnswer n → n ≡ m → (n ≡ 0 → ⊥)
     → Answered t m o b b set set walk walk a
 unfolding runAnswer ran setAfter walkAfter
 run-refused t zero m o b set walk a ea e h = absurd (h refl)
@@ -163,17 +165,19 @@ run-refused t (suc n) m o b set walk a ea e h =
     rw (ea, ← e) (record { outcome = refl; rules = refl; taken = refl; used = refl; buffer = refl; set-is = refl; walk-is = refl })
 
 -- nothing was refused
-pub run-given : (t : Table) (n m : ℕ) (o : runs.Outcome) (b b′ set set′ walk walk′ : List ℕ) (a : answer.RunAnswer) → n ≡ m → n ≡ 0
+pub run-given : (t : Table) (n m : ℕ) (o : runs.Ran) (b b′ set set′ walk walk′ : List ℕ) (a : answer.RunAnswer) → n ≡ m → n ≡ 0
     → Answered t 0 o b b′ set set′ walk walk′ a → Answered t m o b b′ set set′ walk walk′ a
 run-given t n m o b b′ set set′ walk walk′ a e z p = rw (sym e ∙ z) p
 
 -- r is what `lengths` answered
 module _ (t : Table) (b hints set walk : List ℕ) (r : Bool) (e : r ≡ lengthsOk hints set walk) where
-  pub run-wrong : not r ≡ true → 7 ≡ runRefusal t b (lengthsOk hints set walk)
-  run-wrong n = rw (sym e ∙ not-true r n)
+  pub run-wrong : not r ≡ true → 7 ≡ runRefusal t hints b set walk
+  unfolding runRefusal
+  run-wrong n = refuses 7 _ _ r e n
 
-  pub run-right : not r ≡ false → (n : ℕ) → n ≡ entryRefusal t b → n ≡ runRefusal t b (lengthsOk hints set walk)
-  run-right n m q = rw (sym e ∙ not-false r n) q
+  pub run-right : not r ≡ false → (n : ℕ) → n ≡ entryRefusal t b → n ≡ runRefusal t hints b set walk
+  unfolding runRefusal entryRefusal
+  run-right n m q = goes-on 7 _ _ r m e n q
 
 -- the buffer that a run leaves
 module _ (t : Table) (b : List ℕ) (v : Ready t b) (budget : ℕ) (ws : List ℕ) (w : Words64 ws) (b′ : List ℕ)
@@ -190,32 +194,32 @@ module _ (t : Table) (b : List ℕ) (v : Ready t b) (budget : ℕ) (ws : List �
   pub left-back : decode b′ ≡ (run t budget (hintsAt ws 0) (decode b)) .state
   left-back = rw e (held-back t (v .good .big) _ left-inv left-normal)
 
-  pub left-result : (run t budget (hintsAt ws 0) (decode b)) .result ≡ conclusion t (decode b′)
-  left-result = run-result t (v .good .big) budget (hintsAt ws 0) (decode b) (v .fit .inv) ∙ ap (conclusion t) (sym left-back)
+  pub left-standing : (run t budget (hintsAt ws 0) (decode b)) .standing ≡ conclusion t (decode b′)
+  left-standing = run-standing t (v .good .big) budget (hintsAt ws 0) (decode b) (v .fit .inv) ∙ ap (conclusion t) (sym left-back)
 
 -- a run whose result is a conclusion was run
 pub ran-all : (t : Table) (s : State) → ran 0 (conclusion t s) ≡ true
 unfolding ran
 ran-all t s = go (conclusion t s) refl
   where
-    go : (r : Result) → conclusion t s ≡ r → ran 0 r ≡ true
+    go : (r : Standing) → conclusion t s ≡ r → ran 0 r ≡ true
     go (safe j) e = refl
     go reached e = refl
     go unfinished e = refl
     go noRoom e = absurd (never-noRoom t s e)
 
 module _ (t : Table) (b : List ℕ) (v : Ready t b) (budget : ℕ) (ws : List ℕ) (w : Words64 ws) (b′ : List ℕ) (r : Ran)
-    (e : Ended (run t budget (hintsAt ws 0) (decode b)) b′ r) where
+    (e : RanTo (run t budget (hintsAt ws 0) (decode b)) b′ r) where
   pub ended-ready : Ready t b′
   ended-ready = left-ready t b v budget ws w b′ (e .buffer)
 
   pub ended-stands : Stands t b′ (r .standing)
-  ended-stands = e .standing ∙ ap standingOf (left-result t b v budget ws w b′ (e .buffer))
+  ended-stands = e .standing ∙ ap standingOf (left-standing t b v budget ws w b′ (e .buffer))
 
   pub run-answers : (set set′ walk walk′ : List ℕ) (a : answer.RunAnswer) → Finished t b′ r a set set′ walk walk′
       → Answered t 0 (run t budget (hintsAt ws 0) (decode b)) b b′ set set′ walk walk′ a
   run-answers set set′ walk walk′ a n =
-      let p = left-result t b v budget ws w b′ (e .buffer) in
+      let p = left-standing t b v budget ws w b′ (e .buffer) in
       let q = left-back t b v budget ws w b′ (e .buffer) in
       rw p (record {
         outcome = n .outcome ∙ ap (runAnswer 0 (conclusion t (decode b′))) q;

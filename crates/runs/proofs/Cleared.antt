@@ -1,11 +1,12 @@
 -- A fresh run buffer: zeros, then the words of the fresh state.
 use Prim.Native.Nat.{ℕ, zero, suc, _+_, _≤_, _<_}
 use native.Mathlib.Omega.{arith}
-use mathlib.Core.Bool.{Bool, cond}
+use mathlib.Core.Bool.{Bool, true, false, not}
 use mathlib.Core.List.{List}
-use mathlib.Core.Logic.{_⊎_, inl, inr, _≢_}
+use mathlib.Core.Logic.{inl, inr, _≢_}
 use mathlib.Core.Path.{_≡_, refl, sym, ap, _∙_}
-use borrow.Author.Tests.{eq-eqb, ne-eqb}
+use borrow.Author.Tests.{ne-eqb}
+use Rattle.answers.proofs.Order.{refuses, goes-on, refuses-other, goes-on-same, accepts}
 use lib.ListN.{length, getD, set, length-set}
 use lib.Seq.{sets, ext-getD, getD-set-same, getD-set-other}
 use Rattle.rules.proofs.Buffer.{at-x, at-y, encode-n, encode-k, encode-length}
@@ -14,11 +15,11 @@ use Rattle.rules.specs.Rules.{put, freshOf}
 use Rattle.runs.proofs.Stores.{set-n, set-k, place, put-x, Place, first, second, inX, inY}
 use Rattle.runs.specs.Promises.{freshRefusal, FreshPromise}
 use Rattle.runs.specs.Inner.{nothing}
-use Rattle.sets.proofs.Range.{range-says, full-set}
+use Rattle.sets.proofs.Range.{range-high-by, full-set}
 use Rattle.sets.specs.Said.{IsFull}
-use Rattle.sets.specs.declared.Full.{Full}
-use Rattle.sets.proofs.Tests.{same-or, Says, pass, fail}
-use Rattle.sets.specs.Sets.{Set, empty, full, sizeRefusal}
+use Rattle.sets.specs.declared.SetAnswer.{SetAnswer}
+use Rattle.sets.proofs.Tests.{same-or}
+use Rattle.sets.specs.Sets.{Set, empty, full, inRange}
 
 no-word : (q : ℕ) → getD empty q 0 ≡ 0
 unfolding empty
@@ -68,38 +69,27 @@ fresh-is N b1 b2 b3 b4 v four ev e1 e2 e3 e4 =
     (e3 ∙ ap (λ (c : List ℕ). set c 0 2) (e2 ∙ ap (λ (c : List ℕ). sets c 6 v) e1 ∙ put-x nothing 1 v four (omega arith)) ∙ set-n _ _) ∙ set-k _ _
     ∙ ap (λ (w : Set). encode (record { n = 2; k = 2; x = put (λ j. empty) 1 w; y = λ j. empty })) ev
 
--- N is in range where nothing is refused
-range-ok : (N n : ℕ) → n ≡ sizeRefusal N → n ≡ 0 → N ≤ 256
-unfolding sizeRefusal
-range-ok N n e z = go (range-says N) (sym e ∙ z)
-  where
-    go : {b : Bool} → Says ((1 ≤ N) × (N ≤ 256)) ((N ≡ 0) ⊎ (256 < N)) b → _≡_ {A = ℕ} (cond b 0 2) 0 → N ≤ 256
-    go (pass h) q = h .1
-    go (fail h) q = absurd (omega arith)
-
--- ---- the three returns of `fresh`; r is what `full` answered
+-- ---- the three returns of `fresh`; q is what `in_range` answered, r what `full` did
 module _ (N : ℕ) (b : List ℕ) where
+  fresh-refused : (n : ℕ) → n ≡ freshRefusal N b → n ≢ 0 → FreshPromise N b b n
+  fresh-refused n e h = record { answer = e; buffer = rw (← e, ne-eqb n 0 h) }
+
   pub fresh-7 : (length b ≡ 2066 → ⊥) → FreshPromise N b b 7
   unfolding freshRefusal
-  fresh-7 h = record { answer = rw (ne-eqb (length b) 2066 h); buffer = rw (ne-eqb (length b) 2066 h) }
+  fresh-7 h = fresh-refused 7 (refuses-other _ _ _ _ h) (λ e. omega arith)
 
-  module _ (len : length b ≡ 2066) (r : Full) (e : IsFull N r) where
-    pub fresh-2 : (r .refusal ≡ 0 → ⊥) → FreshPromise N b b (r .refusal)
+  module _ (len : length b ≡ 2066) (q : Bool) (e : q ≡ inRange N) where
+    pub fresh-2 : not q ≡ true → FreshPromise N b b 2
     unfolding freshRefusal
-    fresh-2 h =
-        record {
-          answer = rw (eq-eqb (length b) 2066 len) (e .refusal);
-          buffer = rw (eq-eqb (length b) 2066 len, ← (e .refusal), ne-eqb (r .refusal) 0 h);
-        }
+    fresh-2 h = fresh-refused 2 (goes-on-same _ _ _ _ _ len (refuses _ _ _ q e h)) (λ e. omega arith)
 
-    pub fresh-0 : r .refusal ≡ 0 → length (r .set .words) ≡ 4 → (b1 b2 : List ℕ) → b1 ≡ encode nothing → b2 ≡ sets b1 6 (r .set .words)
-        → FreshPromise N b (set (set b2 0 2) 1 2) 0
+    pub fresh-0 : not q ≡ false → (r : SetAnswer) → IsFull N r → length (r .set .words) ≡ 4 → (b1 b2 : List ℕ) → b1 ≡ encode nothing
+        → b2 ≡ sets b1 6 (r .set .words) → FreshPromise N b (set (set b2 0 2) 1 2) 0
     unfolding freshRefusal
-    fresh-0 z four b1 b2 e1 e2 =
-        let full-is = full-set N r e (range-ok N (r .refusal) (e .refusal) z) in
+    fresh-0 h r f four b1 b2 e1 e2 =
+        let taken : 0 ≡ freshRefusal N b = goes-on-same _ _ _ _ _ len (goes-on _ _ _ q _ e h accepts) in
+        let full-is = full-set N r f (range-high-by N q e h) in
         record {
-          answer = rw (eq-eqb (length b) 2066 len) (sym z ∙ e .refusal);
-          buffer =
-              rw (eq-eqb (length b) 2066 len, ← (e .refusal), eq-eqb (r .refusal) 0 z)
-              (fresh-is N b1 b2 (set b2 0 2) (set (set b2 0 2) 1 2) (r .set .words) four full-is e1 e2 refl refl);
+          answer = taken;
+          buffer = rw (← taken) (fresh-is N b1 b2 (set b2 0 2) (set (set b2 0 2) 1 2) (r .set .words) four full-is e1 e2 refl refl);
         }

@@ -11,7 +11,7 @@ use lib.Dec.{eqb}
 use lib.ListN.{length, getD, drop, take, length-take, length-drop, List·getD-eq-default}
 use lib.Seq.{sets, drop-at, getD-drop, sets-eq, length-sets}
 use Rattle.answers.specs.Answer.{given}
-use Rattle.rules.proofs.Budget.{run-result}
+use Rattle.rules.proofs.Budget.{run-standing}
 use Rattle.rules.proofs.Buffer.{at-x, at-y, encode-n, encode-k, encode-length}
 use Rattle.rules.proofs.Demands.{demand-2, demand-3}
 use Rattle.rules.proofs.Ends.{run-ind}
@@ -21,11 +21,12 @@ use Rattle.rules.proofs.Invariant.{Invariant}
 use Rattle.rules.proofs.Meaning.{real-walked, walk-length}
 use Rattle.rules.specs.Buffer.{encode, decode, entryCheck, Normal}
 use Rattle.rules.specs.Demands.{Passes, Demand2, Demand3, ended-safe, ended-reached}
-use Rattle.rules.specs.Rules.{noRoom, conclusion, due, house, State, Result, safe, reached, unfinished}
-use Rattle.rules.specs.Runs.{pick, stop, asks, offered, after, willDo, choose, run, walk, Outcome}
+use Rattle.rules.specs.Rules.{noRoom, conclusion, due, house, State, Standing, safe, reached, unfinished}
+use Rattle.rules.specs.Runs.{pick, stop, asks, offered, after, willDo, choose, run, Ran}
+use Rattle.rules.specs.ShownWalk.{shownWalk}
 use Rattle.rules.specs.Table.{Table}
 use Rattle.rules.specs.Walks.{BadReached}
-use Rattle.entries.specs.Refusal.{entryRefusal}
+use Rattle.answers.specs.Refusals.{firstFailing}
 use Rattle.rules.proofs.Ready.{Words64, Good, Ready, good-by, ready-by}
 use Rattle.runs.proofs.Answers.{left-ready, left-back, ran-all, lengths-set, lengths-walk}
 use Rattle.runs.proofs.Choices.{hints-none, hints-same, hints-more}
@@ -46,14 +47,14 @@ use Rattle.rules.specs.Demands as rules
 use Rattle.runs.specs.declared.RunAnswer as answer
 
 -- ---- what is said, taken apart
-says-safe : (r : Result) (s : State) (j : ℕ) → runAnswer 0 r s ≡ given (safe-with j) → r ≡ safe j
+says-safe : (r : Standing) (s : State) (j : ℕ) → runAnswer 0 r s ≡ given (safe-with j) → r ≡ safe j
 unfolding runAnswer
 says-safe (safe i) s j e = let q : i ≡ j = cc in rw q
 says-safe reached s j e = cc
 says-safe unfinished s j e = cc
 says-safe noRoom s j e = cc
 
-says-reached : (r : Result) (s : State) (m : ℕ) → runAnswer 0 r s ≡ given (reached-with m) → (r ≡ reached) × (m ≡ s .n - 1)
+says-reached : (r : Standing) (s : State) (m : ℕ) → runAnswer 0 r s ≡ given (reached-with m) → (r ≡ reached) × (m ≡ s .n - 1)
 unfolding runAnswer
 says-reached (safe i) s m e = let z : _≡_ {A = ℕ} 0 1 = cc in absurd (omega arith)
 says-reached reached s m e = (refl, let q : s .n - 1 ≡ m = cc in sym q)
@@ -115,22 +116,22 @@ encode-words t big s v m i = elim (lt-or-ge i 2066) [
     at i (inY j c w lj lc e) = rw (at-y s j c i lj lc e) (proper-word (s .y j) (proper-up (t .size) big (m .proper-y j)) c lc)
 
 -- a set and a walk keep their lengths
-set-length : (r : Result) (s : State) (l : List ℕ) → length l ≡ 4 → ((j : ℕ) → length (s .x j) ≡ 4) → length (setAfter 0 r s l) ≡ 4
+set-length : (r : Standing) (s : State) (l : List ℕ) → length l ≡ 4 → ((j : ℕ) → length (s .x j) ≡ 4) → length (setAfter 0 r s l) ≡ 4
 unfolding setAfter
 set-length (safe j) s l e h = h j
 set-length reached s l e h = e
 set-length unfinished s l e h = e
 set-length noRoom s l e h = e
 
-walk-long : (t : Table) (r : Result) (s : State) (l : List ℕ) → length (walkAfter t 0 r s l) ≡ length l
+walk-long : (t : Table) (r : Standing) (s : State) (l : List ℕ) → length (walkAfter t 0 r s l) ≡ length l
 unfolding walkAfter
 walk-long t (safe j) s l = refl
-walk-long t reached s l = length-sets l 0 (walk t s)
+walk-long t reached s l = length-sets l 0 (shownWalk t s)
 walk-long t unfinished s l = refl
 walk-long t noRoom s l = refl
 
 -- a set or a walk written twice is as if written once
-pub set-twice : (r : Result) (s : State) (l : List ℕ) → setAfter 0 r s (setAfter 0 r s l) ≡ setAfter 0 r s l
+pub set-twice : (r : Standing) (s : State) (l : List ℕ) → setAfter 0 r s (setAfter 0 r s l) ≡ setAfter 0 r s l
 unfolding setAfter
 set-twice (safe j) s l = refl
 set-twice reached s l = refl
@@ -143,11 +144,11 @@ sets-twice w l h =
     ∙ ap (λ x. w ++ x) (ap (drop (0 + length w)) (sets-eq w l 0 (omega arith)) ∙ drop-at w (drop (0 + length w) l) (0 + length w) (sym (zero-add (length w))))
     ∙ sym (sets-eq w l 0 (omega arith))
 
-pub walk-twice : (t : Table) (r : Result) (s : State) (l : List ℕ) → (r ≡ reached → length (walk t s) ≤ length l)
+pub walk-twice : (t : Table) (r : Standing) (s : State) (l : List ℕ) → (r ≡ reached → length (shownWalk t s) ≤ length l)
     → walkAfter t 0 r s (walkAfter t 0 r s l) ≡ walkAfter t 0 r s l
 unfolding walkAfter
 walk-twice t (safe j) s l h = refl
-walk-twice t reached s l h = sets-twice (walk t s) l (h refl)
+walk-twice t reached s l h = sets-twice (shownWalk t s) l (h refl)
 walk-twice t unfinished s l h = refl
 walk-twice t noRoom s l h = refl
 
@@ -164,22 +165,22 @@ module _ (t : Table) (hints b set walk : List ℕ) (l : Lent t hints b set walk)
   passes : rules.Passes t (decode b)
   passes = inv-entry t (decode b) (fit .inv)
 
-  not-refused : runRefusal t b (lengthsOk hints set walk) ≡ 0
-  unfolding entryRefusal
-  not-refused = rw (eq-eqb (length b) 2066 (l .long), eq-eqb (length (t .rows)) 1024 (l .rows), l .lengths, l .range, l .sound, l .entry)
+  not-refused : runRefusal t hints b set walk ≡ 0
+  unfolding runRefusal firstFailing
+  not-refused = rw (l .lengths, eq-eqb (length b) 2066 (l .long), eq-eqb (length (t .rows)) 1024 (l .rows), l .range, l .sound, l .entry)
 
   module _ (budget : ℕ) (b′ set′ walk′ : List ℕ) (r : answer.RunAnswer) (p : RunPromise t hints budget b b′ set set′ walk walk′ r) where
-    abbrev o : runs.Outcome
+    abbrev o : runs.Ran
     o = run t budget (hintsAt hints 0) (decode b)
 
     -- the promise of a run that is not refused
-    pub told : said (r .outcome) ≡ runAnswer 0 (o .result) (o .state)
+    pub told : said (r .outcome) ≡ runAnswer 0 (o .standing) (o .state)
     told = rw not-refused at (p .outcome)
 
-    result-is-conclusion : o .result ≡ conclusion t (o .state)
-    result-is-conclusion = run-result t big budget (hintsAt hints 0) (decode b) (fit .inv)
+    result-is-conclusion : o .standing ≡ conclusion t (o .state)
+    result-is-conclusion = run-standing t big budget (hintsAt hints 0) (decode b) (fit .inv)
 
-    was-run : ran 0 (o .result) ≡ true
+    was-run : ran 0 (o .standing) ≡ true
     was-run = rw result-is-conclusion (ran-all t (o .state))
 
     pub fired : r .rules ≡ o .rules
@@ -200,21 +201,21 @@ module _ (t : Table) (hints b set walk : List ℕ) (l : Lent t hints b set walk)
     pub left-hints : o .left ≡ hintsAt hints (o .taken)
     left-hints = run-left t big hints budget (hintsAt hints 0) (decode b) (fit .inv) 0 refl ∙ ap (λ a. hintsAt hints a) (zero-add (o .taken))
 
-    safe-at-j : (j : ℕ) → said (r .outcome) ≡ given (safe-with j) → o .result ≡ safe j
-    safe-at-j j e = says-safe (o .result) (o .state) j (sym told ∙ e)
+    safe-at-j : (j : ℕ) → said (r .outcome) ≡ given (safe-with j) → o .standing ≡ safe j
+    safe-at-j j e = says-safe (o .standing) (o .state) j (sym told ∙ e)
 
-    reached-in : (m : ℕ) → SaysReached r m → (o .result ≡ reached) × (m ≡ o .state .n - 1)
-    reached-in m e = says-reached (o .result) (o .state) m (sym told ∙ e)
+    reached-in : (m : ℕ) → SaysReached r m → (o .standing ≡ reached) × (m ≡ o .state .n - 1)
+    reached-in m e = says-reached (o .standing) (o .state) m (sym told ∙ e)
 
-    ends-of : rules.Ended (o .result) → Ends r
+    ends-of : rules.Ended (o .standing) → Ends r
     unfolding runAnswer
-    ends-of e = go (o .result) e told
+    ends-of e = go (o .standing) e told
       where
-        go : (c : Result) → rules.Ended c → said (r .outcome) ≡ runAnswer 0 c (o .state) → Ends r
+        go : (c : Standing) → rules.Ended c → said (r .outcome) ≡ runAnswer 0 c (o .state) → Ends r
         go c (rules.ended-safe j) q = inl (j, q)
         go c rules.ended-reached q = inr (o .state .n - 1, q)
 
-    of-ends : Ends r → rules.Ended (o .result)
+    of-ends : Ends r → rules.Ended (o .standing)
     of-ends (inl w) = rw (safe-at-j (w .0) (w .1)) (rules.ended-safe (w .0))
     of-ends (inr w) = rw (reached-in (w .0) (w .1) .0) rules.ended-reached
 
@@ -224,45 +225,45 @@ module _ (t : Table) (hints b set walk : List ℕ) (l : Lent t hints b set walk)
     three : rules.Demand3 t (decode b) budget (hintsAt hints 0)
     three = demand-3 t big (decode b) passes budget (hintsAt hints 0)
 
-    set-written : (j : ℕ) → o .result ≡ safe j → set′ ≡ o .state .x j
+    set-written : (j : ℕ) → o .standing ≡ safe j → set′ ≡ o .state .x j
     unfolding setAfter
     set-written j e = rw (not-refused, e) at (p .set-is)
 
-    walk-written : o .result ≡ reached → walk′ ≡ sets walk 0 (runs.walk t (o .state))
+    walk-written : o .standing ≡ reached → walk′ ≡ sets walk 0 (shownWalk t (o .state))
     unfolding walkAfter
     walk-written e = rw (not-refused, e) at (p .walk-is)
 
     left-fits : Fit t b′
     left-fits = (left-ready t b (ready-by good fit) budget hints (l .hint-words) b′ left-buffer) .fit
 
-    few : o .result ≡ reached → o .state .n ≤ 257
+    few : o .standing ≡ reached → o .state .n ≤ 257
     few e =
         let h : getD b′ 0 0 ≤ 257 = reached-short t good b′ left-fits (rw left-state (sym result-is-conclusion ∙ e)) in
         rw (ap (λ s. s .n) left-state) at (rw (n-of b′) at h)
 
     -- the walk has room for the states of a reached run
-    pub walk-room : o .result ≡ reached → length (runs.walk t (o .state)) ≤ length walk
+    pub walk-room : o .standing ≡ reached → length (shownWalk t (o .state)) ≤ length walk
     walk-room e = omega (arith, few e, walk-length t big (o .state), lengths-walk hints set walk (l .lengths))
 
-    shown : (m : ℕ) → SaysReached r m → take m walk′ ≡ runs.walk t (o .state)
+    shown : (m : ℕ) → SaysReached r m → take m walk′ ≡ shownWalk t (o .state)
     shown m e =
         let q = reached-in m e in
-        rw (q .1, walk-written (q .0), ← (walk-length t big (o .state))) (take-sets (runs.walk t (o .state)) walk (walk-room (q .0)))
+        rw (q .1, walk-written (q .0), ← (walk-length t big (o .state))) (take-sets (shownWalk t (o .state)) walk (walk-room (q .0)))
 
     -- the set and the walk that a run leaves, and their lengths
-    pub set-left : set′ ≡ setAfter 0 (o .result) (o .state) set
+    pub set-left : set′ ≡ setAfter 0 (o .standing) (o .state) set
     set-left = rw not-refused at (p .set-is)
 
-    pub walk-left : walk′ ≡ walkAfter t 0 (o .result) (o .state) walk
+    pub walk-left : walk′ ≡ walkAfter t 0 (o .standing) (o .state) walk
     walk-left = rw not-refused at (p .walk-is)
 
     pub set-four : length set′ ≡ 4
     set-four =
-        rw set-left (set-length (o .result) (o .state) set (lengths-set hints set walk (l .lengths))
+        rw set-left (set-length (o .standing) (o .state) set (lengths-set hints set walk (l .lengths))
         (λ j. proper-length (t .size) (o .state .x j) (rw (ap (λ s. s .x j) left-state) at (left-fits .held .norm .proper-x j))))
 
     pub walk-256 : length walk′ ≡ 256
-    walk-256 = rw walk-left (walk-long t (o .result) (o .state) walk ∙ lengths-walk hints set walk (l .lengths))
+    walk-256 = rw walk-left (walk-long t (o .standing) (o .state) walk ∙ lengths-walk hints set walk (l .lengths))
 
     -- what a run leaves passes the entry check again
     pub run-enters : entryCheck t b′ ≡ true
@@ -284,7 +285,7 @@ module _ (t : Table) (hints b set walk : List ℕ) (l : Lent t hints b set walk)
           lengths = lengths-drop a hints set walk set₂ walk₂ (l .lengths) e₁ e₂;
         }
 
-    safe-of : (j : ℕ) × (o .result ≡ safe j) → SaysSafe r
+    safe-of : (j : ℕ) × (o .standing ≡ safe j) → SaysSafe r
     unfolding runAnswer
     safe-of w = (w .0, rw (w .1) at told)
 

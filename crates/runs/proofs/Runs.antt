@@ -23,21 +23,21 @@ use Rattle.runs.proofs.Closing.{looks-all, looks-next}
 use Rattle.runs.proofs.Memo.{remembers-none}
 use Rattle.runs.proofs.Steps.{step-ready, step-back, step-few, room, lacks-none}
 use Rattle.runs.specs.Hints.{hintsAt}
-use Rattle.runs.specs.Inner.{Stands, IsDue, Remembers, Looks, Stepped, Ended}
+use Rattle.runs.specs.Inner.{Stands, IsDue, Remembers, Looks, Stepped, RanTo}
 use Rattle.runs.specs.Said.{standingOf, isOpen, asRule}
 use Rattle.runs.specs.declared.Standing.{Standing}
 use Rattle.runs.specs.declared.search.Ran.{Ran}
 
 -- a run that has fired f rules already, taken a and used u hints
-unfoldable pub ahead : ℕ → ℕ → ℕ → runs.Outcome → runs.Outcome
-ahead f a u o = record { result = o .result; rules = f + o .rules; taken = a + o .taken; used = u + o .used; left = o .left; state = o .state }
+unfoldable pub ahead : ℕ → ℕ → ℕ → runs.Ran → runs.Ran
+ahead f a u o = record { standing = o .standing; rules = f + o .rules; taken = a + o .taken; used = u + o .used; left = o .left; state = o .state }
 
-ahead-after : (f a u : ℕ) (c : Choice) (o : runs.Outcome) → ahead f a u (after c o) ≡ ahead (f + 1) (a + c .taken) (u + c .used) o
+ahead-after : (f a u : ℕ) (c : Choice) (o : runs.Ran) → ahead f a u (after c o) ≡ ahead (f + 1) (a + c .taken) (u + c .used) o
 unfolding ahead after
 ahead-after f a u c o = simp add-assoc
 
 -- the loop, f rules on: o is what the whole run comes to
-pub record Running (t : Table) (ws : List ℕ) (budget : ℕ) (o : runs.Outcome) (buf : List ℕ) (f a u : ℕ) : Type 0 where
+pub record Running (t : Table) (ws : List ℕ) (budget : ℕ) (o : runs.Ran) (buf : List ℕ) (f a u : ℕ) : Type 0 where
   -- the buffer is ready for the next rule
   pub ready : Ready t buf
   -- the whole run is the run from here, with what it has done already
@@ -52,19 +52,19 @@ run-begins t ws budget b v =
     let e : budget - 0 ≡ budget = omega arith in
     record { ready = v; rest = simp (zero-add, e); in-budget = omega arith; in-fired = omega arith; in-taken = omega arith }
 
-module _ (t : Table) (ws : List ℕ) (budget : ℕ) (o : runs.Outcome) (b : List ℕ) (f a u : ℕ) (v : Running t ws budget o b f a u) where
+module _ (t : Table) (ws : List ℕ) (budget : ℕ) (o : runs.Ran) (b : List ℕ) (f a u : ℕ) (v : Running t ws budget o b f a u) where
   ended : run t (budget - f) (hintsAt ws a) (decode b) ≡ stop (conclusion t (decode b)) (hintsAt ws a) (decode b) → (w : Standing) → Stands t b w
-      → Ended o b (record { standing = w; rules = f; taken = a; used = u })
+      → RanTo o b (record { standing = w; rules = f; taken = a; used = u })
   unfolding ahead stop
   ended e w q =
       rw (v .rest, e)
       (record { standing = q; fired = sym (add-zero f); took = sym (add-zero a); uses = sym (add-zero u); buffer = sym (v .ready .fit .held .same) })
 
   -- the budget is spent; the run has concluded
-  pub run-spent : f ≡ budget → (w : Standing) → Stands t b w → Ended o b (record { standing = w; rules = f; taken = a; used = u })
+  pub run-spent : f ≡ budget → (w : Standing) → Stands t b w → RanTo o b (record { standing = w; rules = f; taken = a; used = u })
   run-spent l = let e : budget - f ≡ 0 = omega arith in ended (rw e (run-none t (hintsAt ws a) (decode b)))
 
-  pub run-concluded : conclusion t (decode b) ≢ unfinished → (w : Standing) → Stands t b w → Ended o b (record { standing = w; rules = f; taken = a; used = u })
+  pub run-concluded : conclusion t (decode b) ≢ unfinished → (w : Standing) → Stands t b w → RanTo o b (record { standing = w; rules = f; taken = a; used = u })
   run-concluded n = ended (run-done t (budget - f) (hintsAt ws a) (decode b) n)
 
   -- one rule more
@@ -96,14 +96,14 @@ module _ (t : Table) (ws : List ℕ) (budget : ℕ) (o : runs.Outcome) (b : List
     stands : Stands t b w
     stands = stands-by t b w (v .ready) ew
 
-    pub end-spent : f ≡ budget → Ended o b (record { standing = w; rules = f; taken = a; used = u })
+    pub end-spent : f ≡ budget → RanTo o b (record { standing = w; rules = f; taken = a; used = u })
     end-spent l = run-spent l w stands
 
-    pub end-concluded : (r : Bool) → r ≡ isOpen w → not r ≡ true → Ended o b (record { standing = w; rules = f; taken = a; used = u })
+    pub end-concluded : (r : Bool) → r ≡ isOpen w → not r ≡ true → RanTo o b (record { standing = w; rules = f; taken = a; used = u })
     end-concluded r e n = run-concluded (concluded t b w stands r e n) w stands
 
 -- the loop of `advance`: a run, its memo, and where it can have concluded
-pub record Going (t : Table) (ws : List ℕ) (budget : ℕ) (o : runs.Outcome) (buf memo : List ℕ) (f a u lo hi : ℕ) : Type 0 where
+pub record Going (t : Table) (ws : List ℕ) (budget : ℕ) (o : runs.Ran) (buf memo : List ℕ) (f a u lo hi : ℕ) : Type 0 where
   pub running : Running t ws budget o buf f a u
   -- what g was asked for
   pub kept : Remembers (t .size) (t .rows) memo
@@ -116,13 +116,13 @@ going t ws budget b hi v e =
     record { running = run-begins t ws budget b v; kept = remembers-none (t .size) (t .rows); looks = looks-all b hi (v .spans) e }
 
 -- a turn in which a rule is fired: neither is so
-pub record Turning (t : Table) (ws : List ℕ) (budget : ℕ) (o : runs.Outcome) (buf : List ℕ) (f a u : ℕ) : Type 0 where
+pub record Turning (t : Table) (ws : List ℕ) (budget : ℕ) (o : runs.Ran) (buf : List ℕ) (f a u : ℕ) : Type 0 where
   pub running : Running t ws budget o buf f a u
   pub more : f < budget
   pub opened : Open t (decode buf)
   pub place : getD buf 0 0 < 258
 
-module _ {t : Table} {ws : List ℕ} {budget : ℕ} {o : runs.Outcome} {b : List ℕ} {f a u : ℕ} where
+module _ {t : Table} {ws : List ℕ} {budget : ℕ} {o : runs.Ran} {b : List ℕ} {f a u : ℕ} where
   pub turning : Running t ws budget o b f a u → {w : Standing} → w ≡ standingOf (conclusionOf 256 (t .starts) (decode b)) → (f ≡ budget → ⊥)
       → {r : Bool} → r ≡ isOpen w → not r ≡ false → Turning t ws budget o b f a u
   turning v {w} ew m {r} e n =
@@ -130,7 +130,7 @@ module _ {t : Table} {ws : List ℕ} {budget : ℕ} {o : runs.Outcome} {b : List
       record { running = v; more = omega (arith, v .in-budget, m); opened = op; place = room t b (v .ready) op }
 
   pub never-full : Turning t ws budget o b f a u → {rule : code.Rule} → IsDue t b rule → {q : Bool} → q ≡ lacksRoomFor (asRule rule) (getD b 0 0)
-      → q ≡ true → {x : Ran} {b′ : List ℕ} → Ended o b′ x
+      → q ≡ true → {x : Ran} {b′ : List ℕ} → RanTo o b′ x
   never-full v {rule} d {q} e y = absurd (clash y (lacks-none t b rule q (v .running .ready) d (v .opened) e))
 
   pub goes-on : Turning t ws budget o b f a u → Words64 ws → {b′ m : List ℕ} {taken used lo hi : ℕ} → Remembers (t .size) (t .rows) m

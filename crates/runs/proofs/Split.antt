@@ -9,17 +9,19 @@ use mathlib.Core.Path.{_≡_, refl, sym, ap, _∙_, ap₂}
 use borrow.Author.Tests.{eq-eqb}
 use lib.ListN.{length, drop, length-drop}
 use lib.Seq.{getD-drop}
-use Rattle.rules.proofs.Budget.{run-result, budget}
+use Rattle.rules.proofs.Budget.{run-standing, budget}
 use Rattle.rules.proofs.Demands.{fresh-inv}
 use Rattle.rules.proofs.Ends.{opened, run-done}
 use Rattle.rules.proofs.Held.{kept-accepts}
 use Rattle.rules.proofs.Invariant.{Invariant}
 use Rattle.rules.proofs.Normal.{fresh-normal}
 use Rattle.rules.specs.Buffer.{encode, decode, entryCheck}
-use Rattle.rules.specs.Rules.{fresh, State, Result, reached, unfinished}
-use Rattle.rules.specs.Runs.{stop, andThen, run, walk, Outcome}
+use Rattle.rules.specs.Rules.{fresh, State, Standing, reached, unfinished}
+use Rattle.rules.specs.Runs.{stop, followedBy, run, Ran}
+use Rattle.rules.specs.ShownWalk.{shownWalk}
 use Rattle.rules.specs.Table.{Table}
-use Rattle.runs.proofs.Demands.{set-twice, walk-twice, big, fit, told, fired, took, uses, left-buffer, left-state, left-hints, walk-room, set-left, walk-left, set-four, walk-256, lent-again}
+use Rattle.runs.proofs.Demands.{set-twice, walk-twice, big, fit, told, fired, took, uses, left-buffer, left-state, left-hints, walk-room}
+use Rattle.runs.proofs.Demands.{set-left, walk-left, set-four, walk-256, lent-again}
 use Rattle.runs.proofs.Unique.{outcome-one}
 use Rattle.runs.specs.Demands.{Lent, SplitAnswer, SplitBudget}
 use Rattle.runs.specs.Hints.{hintsFrom, hintsAt}
@@ -49,42 +51,42 @@ hints-drop ws a =
     rw (e, from-drop ws a (length ws / 4 - a) 0, z)
 
 -- an unfinished run writes neither set nor walk
-set-open : {r : Result} → r ≡ unfinished → (s : State) (l : List ℕ) → setAfter 0 r s l ≡ l
+set-open : {r : Standing} → r ≡ unfinished → (s : State) (l : List ℕ) → setAfter 0 r s l ≡ l
 unfolding setAfter
 set-open e s l = rw e
 
-walk-open : (t : Table) {r : Result} → r ≡ unfinished → (s : State) (l : List ℕ) → walkAfter t 0 r s l ≡ l
+walk-open : (t : Table) {r : Standing} → r ≡ unfinished → (s : State) (l : List ℕ) → walkAfter t 0 r s l ≡ l
 unfolding walkAfter
 walk-open t e s l = rw e
 
 -- the first run is unfinished, or the second stops at once
-abbrev Goes : runs.Outcome → runs.Outcome → Type 0
-Goes o o′ = (o .result ≡ unfinished) ⊎ (o′ ≡ stop (o .result) (o .left) (o .state))
+abbrev Goes : runs.Ran → runs.Ran → Type 0
+Goes o o′ = (o .standing ≡ unfinished) ⊎ (o′ ≡ stop (o .standing) (o .left) (o .state))
 
 -- what the second writes is the same over what the first left
-set-over : (o o′ : runs.Outcome) (l l₁ : List ℕ) → Goes o o′ → l₁ ≡ setAfter 0 (o .result) (o .state) l
-    → setAfter 0 (o′ .result) (o′ .state) l ≡ setAfter 0 (o′ .result) (o′ .state) l₁
+set-over : (o o′ : runs.Ran) (l l₁ : List ℕ) → Goes o o′ → l₁ ≡ setAfter 0 (o .standing) (o .state) l
+    → setAfter 0 (o′ .standing) (o′ .state) l ≡ setAfter 0 (o′ .standing) (o′ .state) l₁
 unfolding stop
-set-over o o′ l l₁ (inl e) q = ap (setAfter 0 (o′ .result) (o′ .state)) (sym (q ∙ set-open e (o .state) l))
-set-over o o′ l l₁ (inr e) q = rw (e, q) (sym (set-twice (o .result) (o .state) l))
+set-over o o′ l l₁ (inl e) q = ap (setAfter 0 (o′ .standing) (o′ .state)) (sym (q ∙ set-open e (o .state) l))
+set-over o o′ l l₁ (inr e) q = rw (e, q) (sym (set-twice (o .standing) (o .state) l))
 
-walk-over : (t : Table) (o o′ : runs.Outcome) (l l₁ : List ℕ) → Goes o o′ → (o .result ≡ reached → length (runs.walk t (o .state)) ≤ length l)
-    → l₁ ≡ walkAfter t 0 (o .result) (o .state) l → walkAfter t 0 (o′ .result) (o′ .state) l ≡ walkAfter t 0 (o′ .result) (o′ .state) l₁
+walk-over : (t : Table) (o o′ : runs.Ran) (l l₁ : List ℕ) → Goes o o′ → (o .standing ≡ reached → length (shownWalk t (o .state)) ≤ length l)
+    → l₁ ≡ walkAfter t 0 (o .standing) (o .state) l → walkAfter t 0 (o′ .standing) (o′ .state) l ≡ walkAfter t 0 (o′ .standing) (o′ .state) l₁
 unfolding stop
-walk-over t o o′ l l₁ (inl e) h q = ap (walkAfter t 0 (o′ .result) (o′ .state)) (sym (q ∙ walk-open t e (o .state) l))
-walk-over t o o′ l l₁ (inr e) h q = rw (e, q) (sym (walk-twice t (o .result) (o .state) l h))
+walk-over t o o′ l l₁ (inl e) h q = ap (walkAfter t 0 (o′ .standing) (o′ .state)) (sym (q ∙ walk-open t e (o .state) l))
+walk-over t o o′ l l₁ (inr e) h q = rw (e, q) (sym (walk-twice t (o .standing) (o .state) l h))
 
 -- ---- a first run of n rules, and what m more do
 module _ (t : Table) (hints b set walk : List ℕ) (n m : ℕ) (b₁ s₁ w₁ : List ℕ) (r₁ : answer.RunAnswer)
     (l₁ : Lent t hints b set walk) (p₁ : RunPromise t hints n b b₁ set s₁ walk w₁ r₁) where
-  o₁ : runs.Outcome
+  o₁ : runs.Ran
   o₁ = run t n (hintsAt hints 0) (decode b)
 
   -- the hints that remain, and what m rules more do with them
   abbrev rest : List ℕ
   rest = drop (4 * r₁ .taken) hints
 
-  o₂ : runs.Outcome
+  o₂ : runs.Ran
   o₂ = run t m (hintsAt rest 0) (decode b₁)
 
   N≤ : t .size ≤ 256
@@ -104,14 +106,14 @@ module _ (t : Table) (hints b set walk : List ℕ) (n m : ℕ) (b₁ s₁ w₁ :
       ap₂ (λ hs s. run t m hs s) (hints-drop hints (r₁ .taken) ∙ ap (λ a. hintsAt hints a) taken₁ ∙ sym (left-hints t hints b set walk l₁ n b₁ s₁ w₁ r₁ p₁))
       (left-state t hints b set walk l₁ n b₁ s₁ w₁ r₁ p₁)
 
-  both : run t (n + m) (hintsAt hints 0) (decode b) ≡ andThen o₁ o₂
+  both : run t (n + m) (hintsAt hints 0) (decode b) ≡ followedBy o₁ o₂
   unfolding o₁ o₂
-  both = budget t N≤ n (hintsAt hints 0) (decode b) inv m ∙ ap (andThen o₁) (sym second)
+  both = budget t N≤ n (hintsAt hints 0) (decode b) inv m ∙ ap (followedBy o₁) (sym second)
 
   goes : Goes o₁ o₂
   unfolding o₁
   goes =
-      let e = run-result t N≤ n (hintsAt hints 0) (decode b) inv in
+      let e = run-standing t N≤ n (hintsAt hints 0) (decode b) inv in
       elim (opened t (o₁ .state)) [
         | inl q ↦ inl (e ∙ q)
         | inr d ↦ inr (second ∙ run-done t m (o₁ .left) (o₁ .state) d ∙ ap (λ c. stop c (o₁ .left) (o₁ .state)) (sym e))
@@ -125,11 +127,11 @@ module _ (t : Table) (hints b set walk : List ℕ) (n m : ℕ) (b₁ s₁ w₁ :
     l₂ = lent-again t hints b set walk l₁ n b₁ s₁ w₁ r₁ p₁ (r₁ .taken) set₂ walk₂ four long
 
     pub split-answer : SplitAnswer r₃ r₁ r₂ b₃ b₂
-    unfolding andThen o₁ o₂
+    unfolding followedBy o₁ o₂
     split-answer =
         record {
           outcome = outcome-one (r₃ .outcome) (r₂ .outcome)
-              (told t hints b set₃ walk₃ l₃ (n + m) b₃ s₃ w₃ r₃ p₃ ∙ ap (λ o. runAnswer 0 (o .result) (o .state)) both
+              (told t hints b set₃ walk₃ l₃ (n + m) b₃ s₃ w₃ r₃ p₃ ∙ ap (λ o. runAnswer 0 (o .standing) (o .state)) both
               ∙ sym (told t rest b₁ set₂ walk₂ l₂ m b₂ s₂ w₂ r₂ p₂));
           rules = fired t hints b set₃ walk₃ l₃ (n + m) b₃ s₃ w₃ r₃ p₃ ∙ ap (λ o. o .rules) both
               ∙ ap₂ _+_ (sym (fired t hints b set walk l₁ n b₁ s₁ w₁ r₁ p₁)) (sym (fired t rest b₁ set₂ walk₂ l₂ m b₂ s₂ w₂ r₂ p₂));
@@ -154,14 +156,14 @@ module _ (t : Table) (hints b set walk : List ℕ) (n m : ℕ) (b₁ s₁ w₁ :
     again = lent-again t hints b set walk l₁ n b₁ s₁ w₁ r₁ p₁ (r₁ .taken) s₁ w₁ four₁ long₁
 
     pub split-budget : SplitBudget r₃ r₁ r₂ b₃ b₂ s₃ s₂ w₃ w₂
-    unfolding andThen o₁ o₂
+    unfolding followedBy o₁ o₂
     split-budget =
         record {
           answer = split-answer s₁ w₁ set walk b₂ s₂ w₂ b₃ s₃ w₃ r₂ r₃ four₁ long₁ l₁ p₂ p₃;
-          set-same = set-left t hints b set walk l₁ (n + m) b₃ s₃ w₃ r₃ p₃ ∙ ap (λ o. setAfter 0 (o .result) (o .state) set) both
+          set-same = set-left t hints b set walk l₁ (n + m) b₃ s₃ w₃ r₃ p₃ ∙ ap (λ o. setAfter 0 (o .standing) (o .state) set) both
               ∙ set-over o₁ o₂ set s₁ goes (set-left t hints b set walk l₁ n b₁ s₁ w₁ r₁ p₁)
               ∙ sym (set-left t rest b₁ s₁ w₁ again m b₂ s₂ w₂ r₂ p₂);
-          walk-same = walk-left t hints b set walk l₁ (n + m) b₃ s₃ w₃ r₃ p₃ ∙ ap (λ o. walkAfter t 0 (o .result) (o .state) walk) both
+          walk-same = walk-left t hints b set walk l₁ (n + m) b₃ s₃ w₃ r₃ p₃ ∙ ap (λ o. walkAfter t 0 (o .standing) (o .state) walk) both
               ∙ walk-over t o₁ o₂ walk w₁ goes (walk-room t hints b set walk l₁ n b₁ s₁ w₁ r₁ p₁) (walk-left t hints b set walk l₁ n b₁ s₁ w₁ r₁ p₁)
               ∙ sym (walk-left t rest b₁ s₁ w₁ again m b₂ s₂ w₂ r₂ p₂);
         }

@@ -14,7 +14,7 @@ use Rattle.rules.proofs.Held.{Fit}
 use Rattle.rules.proofs.Invariant.{Invariant}
 use Rattle.rules.specs.Buffer.{decode}
 use Rattle.rules.specs.Rules.{closes, concludes, conclusion, conclusionOf, State, reached}
-use Rattle.rules.specs.Runs.{orZero, firstState, nextState, walkFrom, walk}
+use Rattle.rules.specs.ShownWalk.{orZero, firstState, nextState, walkFrom, shownWalk}
 use Rattle.rules.specs.Table.{row, leads, soundRow, soundRows, Table}
 use Rattle.rules.proofs.Reading.{y-is, n-is}
 use Rattle.rules.proofs.Ready.{Good, Ready}
@@ -61,7 +61,8 @@ or-zero-below x = go (smallest x) (smallest-is x)
     go o (nowhere h) = omega arith
 
 -- the two answers of `smallest`
-pub first-member : (a y w : Set) (r : small.Smallest) (u : ℕ) → w ≡ minus 256 a y → smallestSaid r ≡ smallest w → r ≡ small.the-variants.Member u → Outside a y u
+pub first-member : (a y w : Set) (r : small.Smallest) (u : ℕ) → w ≡ minus 256 a y → smallestSaid r ≡ smallest w → r ≡ small.the-variants.Member u
+    → Outside a y u
 unfolding orZero
 first-member a y w r u e s q =
     let k : some u ≡ smallest (minus 256 a y) = ap smallestSaid (sym q) ∙ s ∙ ap smallest e in
@@ -193,8 +194,8 @@ module _ (rows b w₀ : List ℕ) (m at₀ : ℕ) where
         rw ea (goes at′ (out .small) (λ _. out .is ∙ ap₂ (λ u v. orZero (smallest (minus 256 u v))) ex dy ∙ sym (step-wide rows at ((decode b) .y (j + 2)))))
 
   pub walk-ends : (t : Table) (y : Set) (w : List ℕ) (at j : ℕ) → Walking rows b w₀ m at₀ w at j → m ≤ j → m ≡ getD b 0 0 - 1 → Ready t b → rows ≡ t .rows
-      → getD b 1 0 ≤ 1 → y ≡ quad b 1038 → Outside (t .starts) y at₀ → w ≡ sets w₀ 0 (walk t (decode b))
-  unfolding walk
+      → getD b 1 0 ≤ 1 → y ≡ quad b 1038 → Outside (t .starts) y at₀ → w ≡ sets w₀ 0 (shownWalk t (decode b))
+  unfolding shownWalk
   walk-ends t y w at j v l em r er k ey out =
       let q : j ≡ m = omega (arith, v .in-range) in
       let dy : y ≡ (decode b) .y 1 = ey ∙ y-is b 1 1038 (omega arith) k (omega (arith, r .spans .two)) in

@@ -10,6 +10,7 @@ use Rattle.rules.specs.Table.{Table, backward}
 use Rattle.rules.specs.Rules.{State, state, closes, conclusion, due, house}
 use Rattle.rules.specs.Runs as runs
 use Rattle.rules.specs.Runs.{choose}
+use Rattle.rules.specs.ShownWalk.{orZero}
 use Rattle.rules.specs.Buffer.{encode, decode, Normal}
 use Rattle.rules.proofs.Ready.{Spans, Holds, Ready}
 use Rattle.runs.specs.declared.Standing.{Standing}
@@ -137,15 +138,15 @@ pub record Stepped (t : Table) (hints : List ℕ) (a : ℕ) (b b′ : List ℕ) 
   pub closing : Closing (t .size) (runs.next t (choose t (hintsAt hints a) (decode b)) (decode b)) lo hi
 
 -- a run done, as an outcome of the rules
-pub record Ended (o : runs.Outcome) (b : List ℕ) (r : Ran) : Type 0 where
-  pub standing : r .standing ≡ standingOf (o .result)
+pub record RanTo (o : runs.Ran) (b : List ℕ) (r : Ran) : Type 0 where
+  pub standing : r .standing ≡ standingOf (o .standing)
   pub fired : r .rules ≡ o .rules
   pub took : r .taken ≡ o .taken
   pub uses : r .used ≡ o .used
   pub buffer : b ≡ encode (o .state)
 
 abbrev pub Advanced : Table → List ℕ → ℕ → List ℕ → List ℕ → Ran → Type 0
-Advanced t hints budget b b′ r = Ended (runs.run t budget (hintsAt hints 0) (decode b)) b′ r
+Advanced t hints budget b b′ r = RanTo (runs.run t budget (hintsAt hints 0) (decode b)) b′ r
 
 -- a run that stands so, and room for its reason
 pub record Ending (t : Table) (b : List ℕ) (v : Standing) (set walk : List ℕ) : Type 0 where
@@ -170,7 +171,7 @@ Gone t hints budget b b′ set set′ walk walk′ a =
 
 -- the smallest member of a that is none of y, or 0
 pub record Outside (a y : Set) (r : ℕ) : Type 0 where
-  pub is : r ≡ runs.orZero (smallest (minus 256 a y))
+  pub is : r ≡ orZero (smallest (minus 256 a y))
   pub small : r < 256
 
 -- a refusal's number alone

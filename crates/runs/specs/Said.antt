@@ -11,7 +11,6 @@ use Rattle.runs.specs.declared.Standing.{Standing}
 use Rattle.runs.specs.declared.Asked as asked
 use Rattle.runs.specs.declared.Asked.{Asked}
 use Rattle.runs.specs.declared.Outcome as outcome
-use Rattle.runs.specs.declared.Outcome.{Outcome}
 
 -- the published rule of each name, and back
 unfoldable pub asRule : Rule → rules.Rule
@@ -27,13 +26,13 @@ ruleOf rules.Decide = Decide
 ruleOf rules.Conflict = Conflict
 
 -- how a run stands, and back
-unfoldable pub asResult : Standing → rules.Result
-asResult (standing.the-variants.Safe j) = safe j
-asResult standing.the-variants.Reached = reached
-asResult standing.the-variants.Unfinished = unfinished
-asResult standing.the-variants.NoRoom = noRoom
+unfoldable pub asStanding : Standing → rules.Standing
+asStanding (standing.the-variants.Safe j) = safe j
+asStanding standing.the-variants.Reached = reached
+asStanding standing.the-variants.Unfinished = unfinished
+asStanding standing.the-variants.NoRoom = noRoom
 
-unfoldable pub standingOf : rules.Result → Standing
+unfoldable pub standingOf : rules.Standing → Standing
 standingOf (safe j) = standing.the-variants.Safe j
 standingOf reached = standing.the-variants.Reached
 standingOf unfinished = standing.the-variants.Unfinished
@@ -50,14 +49,14 @@ abbrev pub saidOne : Asked → Answer rules.Rule
 saidOne (asked.the-variants.Fired r) = given (asRule r)
 saidOne (asked.the-variants.Refused n) = refused n
 
--- what a run shows: safe with j, reached with the number of states, unfinished
-pub data Shown : Type 0 where
-  safe-with : ℕ → Shown
-  reached-with : ℕ → Shown
-  not-ended : Shown
+-- what a run says: safe with j, reached with the number of states, unfinished
+pub data Outcome : Type 0 where
+  safe-with : ℕ → Outcome
+  reached-with : ℕ → Outcome
+  not-ended : Outcome
 
--- a run: what it shows, or the refusal's number
-abbrev pub said : Outcome → Answer Shown
+-- a run: what it says, or the refusal's number
+abbrev pub said : outcome.Outcome → Answer Outcome
 said (outcome.the-variants.Safe j) = given (safe-with j)
 said (outcome.the-variants.Reached m) = given (reached-with m)
 said outcome.the-variants.Unfinished = given not-ended

@@ -63,12 +63,11 @@ pub fn fresh(size: u16, buf: &mut [u64]) -> u8
     if buf.len() != 2066 {
         return answers::WRONG_LENGTH;
     }
-    let r = StateSet::full(size);
-    let range = r.refusal;
-    if range != answers::NO_REFUSAL {
-        return range;
+    if !sets::in_range(size) {
+        return answers::OUT_OF_RANGE;
     }
     clear(buf);
+    let r = StateSet::full(size);
     let all = r.set;
     all.write(buf, 6);
     buf[0] = 2;

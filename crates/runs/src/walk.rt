@@ -8,7 +8,7 @@ ghost use Prim.Native.Nat.{_≤_};
 ghost use lib.ListN.{length, getD};
 ghost use lib.Seq.{sets};
 ghost use Rattle.moves.specs.Models.{on};
-ghost use Rattle.rules.specs.Runs.{walk as shown};
+ghost use Rattle.rules.specs.ShownWalk.{shownWalk};
 ghost use Rattle.rules.specs.Buffer.{decode};
 ghost use Rattle.rules.proofs.Ready.{Ready};
 ghost use Rattle.runs.specs.Inner.{Outside};
@@ -27,7 +27,7 @@ fn first_outside(a: StateSet, y: StateSet) -> u16
 // The walk into the first n-1 places; the rest stay.
 pub fn write(moves: &[u64], model: Model, buf: &[u64], walk: &mut [u16])
     requires { ⌜ Ready (on model (now moves)) (now buf) × (getD (now buf) 0 0 ≤ 257) × (getD (now buf) 1 0 ≤ 1) × (length (now walk) ≡ 256) ⌝ }
-    ensures { λ r. ⌜ now (walk .exit) ≡ sets (now (walk .entry)) 0 (shown (on model (now (moves .entry))) (decode (now (buf .entry)))) ⌝ }
+    ensures { λ r. ⌜ now (walk .exit) ≡ sets (now (walk .entry)) 0 (shownWalk (on model (now (moves .entry))) (decode (now (buf .entry)))) ⌝ }
 {
     let m = (buf[0] - 1) as usize;
     let mut at = first_outside(model.starts, StateSet::read(buf, 1038));

@@ -155,7 +155,8 @@ pack-ext d p q h = pack-of d (pack d p) q (pack-lt d p) (λ k l. bit-pack d p k 
 pub pack-pad : (m n : ℕ) (p : ℕ → Bool) → m ≤ n → ((k : ℕ) → m ≤ k → k < n → p k ≡ false) → pack m p ≡ pack n p
 unfolding pack
 pack-pad zero zero p h o = refl
-pack-pad zero (suc n) p h o = rw (o 0 (omega arith) (omega arith), ← (pack-pad zero n (λ k. p (suc k)) (omega arith) (λ k a l. o (suc k) (omega arith) (omega arith))))
+pack-pad zero (suc n) p h o =
+    rw (o 0 (omega arith) (omega arith), ← (pack-pad zero n (λ k. p (suc k)) (omega arith) (λ k a l. o (suc k) (omega arith) (omega arith))))
 pack-pad (suc m) zero p h o = absurd (omega arith)
 pack-pad (suc m) (suc n) p h o = rw (pack-pad m n (λ k. p (suc k)) (omega arith) (λ k a l. o (suc k) (omega arith) (omega arith)))
 

@@ -33,7 +33,8 @@ module _ (N : ℕ) where
   pub count-lt : {x y : Set} → Within N x y → Beyond N y x → count N x < count N y
   unfolding count
   count-lt {x} {y} h w =
-      sum-lt N _ _ (λ s l. digit-le (member x s) (member y s) (h .at s l)) (w .who) (w .below) (digit-less (member x (w .who)) (member y (w .who)) (w .not) (w .is))
+      sum-lt N _ _ (λ s l. digit-le (member x s) (member y s) (h .at s l)) (w .who) (w .below)
+      (digit-less (member x (w .who)) (member y (w .who)) (w .not) (w .is))
 
   pub count-max : (x : Set) → count N x ≤ N
   unfolding count

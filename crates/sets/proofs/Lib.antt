@@ -1,5 +1,6 @@
 pub mod Tests
 pub mod Search
+pub mod Lists
 pub mod Bits
 pub mod Members
 pub mod Within

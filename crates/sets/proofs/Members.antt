@@ -133,7 +133,11 @@ module _ (N : ℕ) (big : N ≤ 256) where
   pub proper-sound : (x : Set) → Proper 256 x → sound N x ≡ true → Proper N x
   unfolding sound
   proper-sound x h e =
-      record { is = set-pad N big (member x) (λ s a l. never (member x s) (λ m. past s a (passed (all-says 256 (λ s. not (member x s) || ltb s N)) e s l) m)) ∙ h .is }
+      record {
+        is =
+            set-pad N big (member x) (λ s a l. never (member x s) (λ m. past s a (passed (all-says 256 (λ s. not (member x s) || ltb s N)) e s l) m))
+            ∙ h .is;
+      }
     where
       past : (s : ℕ) → N ≤ s → (not (member x s) || ltb s N) ≡ true → member x s ≡ true → ⊥
       past s a q m = clash (implied (member x s) (ltb s N) q m) (fails (leb-says (suc s) N) (λ l. omega arith))

@@ -5,10 +5,10 @@ use mathlib.Core.Bool.{Bool}
 use mathlib.Core.List.{List}
 use lib.Seq.{sets}
 use Rattle.answers.proofs.Unique.{only}
-use Rattle.sets.specs.Sets.{Set, member, within, sound, meet, join, minus, with, count, smallest, quad}
+use Rattle.sets.specs.Sets.{Set, member, within, sound, meet, join, minus, with, count, smallest, inRange, quad}
 use Rattle.sets.specs.Said.{said, IsFull}
 use Rattle.sets.specs.declared.StateSet.{StateSet}
-use Rattle.sets.specs.declared.Full.{Full}
+use Rattle.sets.specs.declared.SetAnswer.{SetAnswer}
 use Rattle.sets.specs.declared.Smallest.{Smallest}
 use Rattle.sets.specs.declared.Smallest.the-variants.{Member, Nothing}
 
@@ -23,7 +23,10 @@ said-one (Member s) Nothing e = cc
 said-one Nothing (Member u) e = cc
 said-one Nothing Nothing e = refl
 
-pub full-once : (n : ℕ) {a b : Full} → IsFull n a → IsFull n b → a ≡ b
+pub range-once : (N : ℕ) {a b : Bool} → a ≡ inRange N → b ≡ inRange N → a ≡ b
+range-once N = only
+
+pub full-once : (n : ℕ) {a b : SetAnswer} → IsFull n a → IsFull n b → a ≡ b
 full-once n p q = λ i. record { refusal = only (p .refusal) (q .refusal) i; set = only-set (p .set) (q .set) i }
 
 pub count-once : (x : Set) {a b : ℕ} → a ≡ count 256 x → b ≡ count 256 x → a ≡ b

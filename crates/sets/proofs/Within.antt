@@ -77,7 +77,10 @@ module _ (N : ℕ) (big : N ≤ 256) where
   within-256 x y hx = go (within N x y) (within-says N x y)
     where
       go : (b : Bool) → Says (Within N x y) (Beyond N x y) b → within 256 x y ≡ b
-      go b (pass h) = within-true 256 (record { at = λ s l e. elim (lt-or-ge s N) [ inl a ↦ h .at s a e | inr a ↦ absurd (clash e (proper-past N big hx s a)) ] })
+      go b (pass h) =
+          within-true 256 (record {
+            at = λ s l e. elim (lt-or-ge s N) [ inl a ↦ h .at s a e | inr a ↦ absurd (clash e (proper-past N big hx s a)) ];
+          })
       go b (fail w) = within-false 256 (record { who = w .who; below = omega (arith, w .below); is = w .is; not = w .not })
 
   pub meet-256 : (x y : Set) → Proper N x → meet 256 x y ≡ meet N x y

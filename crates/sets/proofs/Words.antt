@@ -20,7 +20,8 @@ use mir.Val.{Fits}
 use Rattle.sets.specs.Search.{sum}
 use Rattle.sets.specs.Sets.{Set, Proper, empty, digit, bit, member, wordOf, setOf, full, within, meet, join, minus, with, count, smallest, quad}
 use Rattle.sets.proofs.Bits.{bit-and, bit-or, bit-zero, bit-not, bit-shift, bit-power, eqb-odd, pack-true, ones-sum, First, trailing-first}
-use Rattle.sets.proofs.Members.{proper-four, proper-of, proper-ext, proper-empty, proper-length, proper-word, member-of, member-empty, member-minus, member-word, set-ext}
+use Rattle.sets.proofs.Members.{proper-four, proper-of, proper-ext, proper-empty, proper-length, proper-word, member-of, member-empty}
+use Rattle.sets.proofs.Members.{member-minus, member-word, set-ext}
 use Rattle.sets.proofs.Search.{here, nowhere, least-of, sum-add, sum-ext}
 use Rattle.sets.proofs.Tests.{Says, pass, fail, and-true, clash, which, eqb-says, lt-or-ge, same-or}
 use Rattle.sets.proofs.Within.{Within, Beyond, within-says, not-both}
@@ -204,9 +205,9 @@ module _ (x : Set) (s : ℕ) (hx : Proper 256 x) where
 abbrev pub onesFrom : ℕ → ℕ → ℕ
 onesFrom n k = 2 ^ min (n - k) 64 - 1
 
-pub full-words : (n : ℕ) → onesFrom n 0 ∷ onesFrom n 64 ∷ onesFrom n 128 ∷ onesFrom n 192 ∷ [] ≡ full n
+pub full-words : (N a b c d : ℕ) → a ≡ onesFrom N 0 → b ≡ onesFrom N 64 → c ≡ onesFrom N 128 → d ≡ onesFrom N 192 → a ∷ b ∷ c ∷ d ∷ [] ≡ full N
 unfolding full setOf wordOf
-full-words n = rw (pack-true, pack-true, pack-true, pack-true)
+full-words N a b c d p q r s = rw (p, q, r, s, pack-true, pack-true, pack-true, pack-true)
 
 -- ---- the number of members
 pub count-words : (x : Set) → Proper 256 x → ones (getD x 0 0) + ones (getD x 1 0) + ones (getD x 2 0) + ones (getD x 3 0) ≡ count 256 x

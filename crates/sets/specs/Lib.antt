@@ -1,3 +1,4 @@
 pub mod Search
+pub mod Lists
 pub mod Sets
 pub mod Said

@@ -6,7 +6,7 @@ use mathlib.Core.Path.{_≡_}
 use Rattle.sets.specs.Sets.{empty, full, inRange, sizeRefusal}
 use Rattle.sets.specs.declared.Smallest.{Smallest}
 use Rattle.sets.specs.declared.Smallest.the-variants.{Member, Nothing}
-use Rattle.sets.specs.declared.Full.{Full}
+use Rattle.sets.specs.declared.SetAnswer.{SetAnswer}
 
 -- a member; the answer of its own for the empty set
 abbrev pub said : Smallest → Option ℕ
@@ -14,6 +14,6 @@ said (Member s) = some s
 said Nothing = none
 
 -- the full set of N states, or refusal 2 and the empty set
-pub record IsFull (N : ℕ) (r : Full) : Type 0 where
+pub record IsFull (N : ℕ) (r : SetAnswer) : Type 0 where
   pub refusal : r .refusal ≡ sizeRefusal N
   pub set : r .set .words ≡ cond (inRange N) (full N) empty

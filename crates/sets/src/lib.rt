@@ -4,7 +4,7 @@
 // specs/Sets.antt; `256` there is the number of states that four words can hold.
 ghost use mathlib.Core.Path.{_≡_};
 ghost use lib.Seq.{sets};
-ghost use Rattle.sets.specs.Sets.{member, within, sound, meet, join, minus, with, count, smallest, quad};
+ghost use Rattle.sets.specs.Sets.{member, within, sound, meet, join, minus, with, count, smallest, inRange, quad};
 ghost use Rattle.sets.specs.Said.{said, IsFull};
 
 mod word;
@@ -13,8 +13,8 @@ pub struct StateSet {
     pub words: [u64; 4],
 }
 
-// What `full` answers: a refusal number, 0 for none, and the set, empty where refused.
-pub struct Full {
+// What a call that makes a set answers: a refusal number, 0 for none, and the set, empty where refused.
+pub struct SetAnswer {
     pub refusal: u8,
     pub set: StateSet,
 }
@@ -25,31 +25,38 @@ pub enum Smallest {
     Nothing,
 }
 
+// Whether N is 1 to 256.
+pub fn in_range(size: u16) -> bool
+    ensures { λ r. ⌜ r ≡ inRange size ⌝ }
+{
+    if size < 1 { false } else { size <= 256 }
+}
+
 impl StateSet {
     pub const EMPTY: StateSet = StateSet {
         words: [0, 0, 0, 0],
     };
 
-    // The full set of n states; refused with 2 for an n outside 1 to 256.
-    pub fn full(n: u16) -> Full
-        ensures { λ r. ⌜ IsFull n r ⌝ }
+    // The full set of N states; refused with 2 for an N outside 1 to 256.
+    pub fn full(size: u16) -> SetAnswer
+        ensures { λ r. ⌜ IsFull size r ⌝ }
     {
-        if n == 0 || 256 < n {
+        if !in_range(size) {
             let none = StateSet::EMPTY;
-            return Full {
+            return SetAnswer {
                 refusal: answers::OUT_OF_RANGE,
                 set: none,
             };
         }
         let set = StateSet {
             words: [
-                word::ones(n, 0),
-                word::ones(n, 64),
-                word::ones(n, 128),
-                word::ones(n, 192),
+                word::ones(size, 0),
+                word::ones(size, 64),
+                word::ones(size, 128),
+                word::ones(size, 192),
             ],
         };
-        Full {
+        SetAnswer {
             refusal: answers::NO_REFUSAL,
             set,
         }
@@ -110,14 +117,14 @@ impl StateSet {
         out.words[0] | out.words[1] | out.words[2] | out.words[3] == 0
     }
 
-    // Whether no member is from n up.
-    pub fn sound(self, n: u16) -> bool
-        ensures { λ r. ⌜ r ≡ sound n (self .words) ⌝ }
+    // Whether no member is from N up.
+    pub fn sound(self, size: u16) -> bool
+        ensures { λ r. ⌜ r ≡ sound size (self .words) ⌝ }
     {
-        if 256 <= n {
+        if 256 <= size {
             return true;
         }
-        let r = StateSet::full(n);
+        let r = StateSet::full(size);
         let all = r.set;
         self.within(all)
     }

@@ -4,14 +4,14 @@ ghost use Prim.Native.Nat.{_+_, _-_, _^_, min};
 ghost use lib.Count.{trailingZeros};
 ghost use lib.ListN.{getD};
 
-// The word of a full set of n states that starts at state `from`.
-pub fn ones(n: u16, from: u16) -> u64
-    ensures { λ r. ⌜ r ≡ 2 ^ min (n - from) 64 - 1 ⌝ }
+// The word of a full set of N states that starts at state `from`.
+pub fn ones(size: u16, from: u16) -> u64
+    ensures { λ r. ⌜ r ≡ 2 ^ min (size - from) 64 - 1 ⌝ }
 {
-    if n <= from {
+    if size <= from {
         return 0;
     }
-    let d = n - from;
+    let d = size - from;
     if d < 64 {
         (1 << d) - 1
     } else {

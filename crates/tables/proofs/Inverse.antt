@@ -6,7 +6,7 @@ use mathlib.Core.Path.{_≡_, refl, sym, ap, ap₂, _∙_}
 use mathlib.Core.List.{List, [], _∷_, _++_}
 use lib.ListN.{length, getD, drop}
 use lib.Seq.{getD-drop}
-use Rattle.tables.specs.Format.{word, wordBytes, Kind, count, stateAt, state, number, moveAt, move}
+use Rattle.tables.specs.Format.{bits16, bytes16, Kind, count, stateEntry, state, number, moveEntry, move}
 
 -- every byte is one
 pub record Bytes (b : List ℕ) : Type 0 where
@@ -17,14 +17,14 @@ bytes-drop b n h = record { byte = λ i. rw getD-drop (h .byte (n + i)) }
 
 -- a kind's bytes and its value undo each other, for numbers below a bound
 pub record Inverse (K : Kind) (top : ℕ) : Type 0 where
-  pub some : 0 < K .size
+  pub some : 0 < K .width
   pub near : (b : List ℕ) (at : ℕ) → K .value b at ≡ K .value (drop at b) 0
-  pub long : (v : ℕ) → length (K .bytes v) ≡ K .size
+  pub long : (v : ℕ) → length (K .bytes v) ≡ K .width
   pub back : (v : ℕ) (rest : List ℕ) → v < top → K .value (K .bytes v ++ rest) 0 ≡ v
-  pub forth : (l : List ℕ) → K .size ≤ length l → Bytes l → K .bytes (K .value l 0) ++ drop (K .size) l ≡ l
+  pub forth : (l : List ℕ) → K .width ≤ length l → Bytes l → K .bytes (K .value l 0) ++ drop (K .width) l ≡ l
   pub tops : (l : List ℕ) → Bytes l → K .value l 0 < top
 
--- the bytes of a word
+-- the bytes of 16 bits
 low-byte : (x y : ℕ) → x < 256 → (x + 256 * y) % 256 ≡ x
 low-byte x y h = omega arith
 
@@ -41,43 +41,57 @@ near b at i = rw (zero-add i) (sym (getD-drop at b i 0))
 near0 : (b : List ℕ) (at : ℕ) → getD b at 0 ≡ getD (drop at b) 0 0
 near0 b at = let e : at ≡ at + 0 = omega arith in ap (λ (j : ℕ). getD b j 0) e ∙ sym (getD-drop at b 0 0)
 
-word-near : (b : List ℕ) (at : ℕ) → word b at ≡ word (drop at b) 0
-unfolding word
-word-near b at = ap₂ (λ (x y : ℕ). x + 256 * y) (near0 b at) (near b at 1)
+bits16-near : (b : List ℕ) (at : ℕ) → bits16 b at ≡ bits16 (drop at b) 0
+unfolding bits16
+bits16-near b at = ap₂ (λ (x y : ℕ). x + 256 * y) (near0 b at) (near b at 1)
 
-word-back : (v : ℕ) (rest : List ℕ) → v < 65536 → word (wordBytes v ++ rest) 0 ≡ v
-unfolding word
-word-back v rest h = omega arith
+bits16-back : (v : ℕ) (rest : List ℕ) → v < 65536 → bits16 (bytes16 v ++ rest) 0 ≡ v
+unfolding bits16
+bits16-back v rest h = omega arith
 
-word-forth : (l : List ℕ) → 2 ≤ length l → Bytes l → wordBytes (word l 0) ++ drop 2 l ≡ l
-unfolding word
-word-forth [] h B = absurd (not-suc-le-zero h)
-word-forth (x ∷ []) h B = absurd (omega arith)
-word-forth (x ∷ y ∷ l) h B =
+bits16-forth : (l : List ℕ) → 2 ≤ length l → Bytes l → bytes16 (bits16 l 0) ++ drop 2 l ≡ l
+unfolding bits16
+bits16-forth [] h B = absurd (not-suc-le-zero h)
+bits16-forth (x ∷ []) h B = absurd (omega arith)
+bits16-forth (x ∷ y ∷ l) h B =
     let p : x < 256 = B .byte 0 in
     let q : y < 256 = B .byte 1 in
     rw (low-byte x y p, high-byte x y p q)
 
-word-tops : (l : List ℕ) → Bytes l → word l 0 < 65536
-unfolding word
-word-tops l B = omega (arith, B .byte 0, B .byte (0 + 1))
+bits16-tops : (l : List ℕ) → Bytes l → bits16 l 0 < 65536
+unfolding bits16
+bits16-tops l B = omega (arith, B .byte 0, B .byte (0 + 1))
 
 pub count-inverse : (low high : ℕ) → Inverse (count low high) 65536
-count-inverse low high = record { some = omega arith; near = word-near; long = λ v. refl; back = word-back; forth = word-forth; tops = word-tops }
+count-inverse low high = record {
+  some = omega arith;
+  near = bits16-near;
+  long = λ v. refl;
+  back = bits16-back;
+  forth = bits16-forth;
+  tops = bits16-tops;
+}
 
-pub number-inverse : (n : ℕ) → Inverse (number n) 65536
-number-inverse n = record { some = omega arith; near = word-near; long = λ v. refl; back = word-back; forth = word-forth; tops = word-tops }
+pub number-inverse : (N : ℕ) → Inverse (number N) 65536
+number-inverse N = record {
+  some = omega arith;
+  near = bits16-near;
+  long = λ v. refl;
+  back = bits16-back;
+  forth = bits16-forth;
+  tops = bits16-tops;
+}
 
-state-near : (b : List ℕ) (at : ℕ) → stateAt b at ≡ stateAt (drop at b) 0
-unfolding stateAt
-state-near b at = ap₂ (λ (x y : ℕ). x * 256 + y) (word-near b at) (near b at 2)
+state-near : (b : List ℕ) (at : ℕ) → stateEntry b at ≡ stateEntry (drop at b) 0
+unfolding stateEntry
+state-near b at = ap₂ (λ (x y : ℕ). x * 256 + y) (bits16-near b at) (near b at 2)
 
-state-back : (v : ℕ) (rest : List ℕ) → v < 16777216 → stateAt (state .bytes v ++ rest) 0 ≡ v
-unfolding stateAt word
+state-back : (v : ℕ) (rest : List ℕ) → v < 16777216 → stateEntry (state .bytes v ++ rest) 0 ≡ v
+unfolding stateEntry bits16
 state-back v rest h = omega arith
 
-state-forth : (l : List ℕ) → 3 ≤ length l → Bytes l → state .bytes (stateAt l 0) ++ drop 3 l ≡ l
-unfolding stateAt word
+state-forth : (l : List ℕ) → 3 ≤ length l → Bytes l → state .bytes (stateEntry l 0) ++ drop 3 l ≡ l
+unfolding stateEntry bits16
 state-forth [] h B = absurd (not-suc-le-zero h)
 state-forth (x ∷ []) h B = absurd (omega arith)
 state-forth (x ∷ y ∷ []) h B = absurd (omega arith)
@@ -89,26 +103,26 @@ state-forth (x ∷ y ∷ z ∷ l) h B =
     let g : ((x + 256 * y) * 256 + z) % 256 ≡ z = omega arith in
     rw (e, low-byte x y p, high-byte x y p q, g)
 
-state-tops : (l : List ℕ) → Bytes l → stateAt l 0 < 16777216
-unfolding stateAt word
+state-tops : (l : List ℕ) → Bytes l → stateEntry l 0 < 16777216
+unfolding stateEntry bits16
 state-tops l B = omega (arith, B .byte 0, B .byte (0 + 1), B .byte (0 + 2))
 
 pub state-inverse : Inverse state 16777216
 state-inverse = record { some = omega arith; near = state-near; long = λ v. refl; back = state-back; forth = state-forth; tops = state-tops }
 
-move-near : (b : List ℕ) (at : ℕ) → moveAt b at ≡ moveAt (drop at b) 0
-unfolding moveAt word
+move-near : (b : List ℕ) (at : ℕ) → moveEntry b at ≡ moveEntry (drop at b) 0
+unfolding moveEntry bits16
 move-near b at =
     let e : at + 2 + 1 ≡ at + 3 = omega arith in
     ap₂ (λ (x y : ℕ). x * 65536 + y) (ap₂ (λ (x y : ℕ). x + 256 * y) (near0 b at) (near b at 1))
     (ap₂ (λ (x y : ℕ). x + 256 * y) (near b at 2) (ap (λ (j : ℕ). getD b j 0) e ∙ near b at 3))
 
-move-back : (v : ℕ) (rest : List ℕ) → v < 4294967296 → moveAt (move 0 .bytes v ++ rest) 0 ≡ v
-unfolding moveAt word
+move-back : (v : ℕ) (rest : List ℕ) → v < 4294967296 → moveEntry (move 0 .bytes v ++ rest) 0 ≡ v
+unfolding moveEntry bits16
 move-back v rest h = omega arith
 
-move-forth : (l : List ℕ) → 4 ≤ length l → Bytes l → move 0 .bytes (moveAt l 0) ++ drop 4 l ≡ l
-unfolding moveAt word
+move-forth : (l : List ℕ) → 4 ≤ length l → Bytes l → move 0 .bytes (moveEntry l 0) ++ drop 4 l ≡ l
+unfolding moveEntry bits16
 move-forth [] h B = absurd (not-suc-le-zero h)
 move-forth (x ∷ []) h B = absurd (omega arith)
 move-forth (x ∷ y ∷ []) h B = absurd (omega arith)
@@ -122,9 +136,9 @@ move-forth (x ∷ y ∷ z ∷ w ∷ l) h B =
     let f : ((x + 256 * y) * 65536 + (z + 256 * w)) % 65536 ≡ z + 256 * w = omega arith in
     rw (e, f, low-byte x y p, high-byte x y p q, low-byte z w r, high-byte z w r s)
 
-move-tops : (l : List ℕ) → Bytes l → moveAt l 0 < 4294967296
-unfolding moveAt word
+move-tops : (l : List ℕ) → Bytes l → moveEntry l 0 < 4294967296
+unfolding moveEntry bits16
 move-tops l B = omega (arith, B .byte 0, B .byte (0 + 1), B .byte (0 + 2), B .byte (0 + 2 + 1))
 
-pub move-inverse : (n : ℕ) → Inverse (move n) 4294967296
-move-inverse n = record { some = omega arith; near = move-near; long = λ v. refl; back = move-back; forth = move-forth; tops = move-tops }
+pub move-inverse : (N : ℕ) → Inverse (move N) 4294967296
+move-inverse N = record { some = omega arith; near = move-near; long = λ v. refl; back = move-back; forth = move-forth; tops = move-tops }

@@ -1,7 +1,7 @@
 pub mod Lists
 pub mod Signed
 pub mod Taking
-pub mod Checking
+pub mod Counting
 pub mod Filling
 pub mod Sections
 pub mod Files
@@ -9,7 +9,7 @@ pub mod Putting
 pub mod Writing
 pub mod Inverse
 pub mod Back
-pub mod Listed
+pub mod Contents
 pub mod Numbered
 pub mod Round
 pub mod Unique

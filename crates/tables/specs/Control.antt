@@ -1,70 +1,61 @@
--- A control table: a table, its states' angles and modes. What a file's listing says of it, and how it is listed in a file.
+-- A control table in a file: which table a file's contents say, what a file of a table holds, and what reading and writing refuse.
 use Prim.Native.Nat.{ℕ, _+_, _*_, _/_, _%_}
-use mathlib.Core.Bool.{Bool, false, not, _&&_, _||_, cond}
-use mathlib.Core.List.{List}
-use lib.Dec.{eqb, ltb}
+use mathlib.Core.Bool.{Bool, false, _&&_, _||_, cond}
+use mathlib.Core.List.{List, [], _∷_}
+use lib.Dec.{eqb, leb, ltb}
 use lib.IntN.{ℤ, pos, negsuc}
 use lib.ListN.{length, getD}
-use Rattle.answers.specs.Answer.{Answer, refused, given}
-use Rattle.answers.specs.Refusals.{noRefusal, outOfRange, badLabel, wrongLength, shortOutput, notSound}
-use Rattle.rules.specs.Table.{Table, table, leads, soundTable}
+use Rattle.answers.specs.Answer.{Answer, unlessRefused}
+use Rattle.answers.specs.Refusals.{outOfRange, badLabel, wrongLength, shortOutput, notSound, _unless_, firstFailing}
+use Rattle.moves.specs.Models.{Control, control}
+use Rattle.rules.specs.Table.{table, leads, moveCount, soundTable}
+use Rattle.sets.specs.Lists.{tabulate}
 use Rattle.sets.specs.Search.{all}
 use Rattle.sets.specs.Sets.{Set, member, setOf, inRange}
 use Rattle.turns.specs.Turn.{isAngle}
-use Rattle.tables.specs.Lists.{tabulate, passing, listed}
-use Rattle.tables.specs.Format.{Listing, Taken, refusedAt, listing, signed, unsigned, fileBytes}
+use Rattle.tables.specs.Lists.{passing, among}
+use Rattle.tables.specs.Format.{Contents, Taken, refusedAt, contents, signed, unsigned, fileBytes}
 
--- `angles` and `modes` have a place for each of 256 states
-pub record Control : Type 0 where
-  pub table : Table
-  pub angles : List ℤ
-  pub modes : List ℕ
+-- ---- from entries
+-- the set of the numbers among them
+unfoldable pub setOfEntries : List ℕ → Set
+setOfEntries vs = setOf 256 (among vs)
 
--- the control table of a call's arguments
-abbrev pub controlFrom : ℕ → Set → Set → List ℕ → List ℤ → List ℕ → Control
-controlFrom N starts safe rows angles modes = record { table = table N starts safe rows; angles = angles; modes = modes }
-
--- ---- from a listing
--- the set of the numbers listed
-unfoldable pub setListed : List ℕ → Set
-setListed vs = setOf 256 (listed vs)
-
--- the states that a move listed leads to from state s
-unfoldable pub rowListed : List ℕ → ℕ → Set
-rowListed vs s = setOf 256 (λ u. listed vs (s * 65536 + u))
+-- the states that a move among them leads to from state s
+unfoldable pub rowOfEntries : List ℕ → ℕ → Set
+rowOfEntries vs s = setOf 256 (λ u. among vs (s * 65536 + u))
 
 -- the move table: 1,024 words, four to a row
-unfoldable pub rowsListed : List ℕ → List ℕ
-rowsListed vs = tabulate 1024 (λ j. getD (rowListed vs (j / 4)) (j % 4) 0)
+unfoldable pub rowsOfEntries : List ℕ → List ℕ
+rowsOfEntries vs = tabulate 1024 (λ j. getD (rowOfEntries vs (j / 4)) (j % 4) 0)
 
--- 256 angles and modes, 0 where no state is listed
-unfoldable pub anglesListed : List ℕ → List ℤ
-anglesListed vs = tabulate 256 (λ s. signed (getD vs s 0 / 256))
+-- 256 angles and modes, 0 where there is no entry of a state
+unfoldable pub anglesOfEntries : List ℕ → List ℤ
+anglesOfEntries vs = tabulate 256 (λ s. signed (getD vs s 0 / 256))
 
-unfoldable pub modesListed : List ℕ → List ℕ
-modesListed vs = tabulate 256 (λ s. getD vs s 0 % 256)
+unfoldable pub modesOfEntries : List ℕ → List ℕ
+modesOfEntries vs = tabulate 256 (λ s. getD vs s 0 % 256)
 
--- the table that a listing gives
-unfoldable pub controlOf : Listing → Control
-controlOf l = record {
-  table = record { size = length (l .states); starts = setListed (l .starts); safe = setListed (l .safe); rows = rowsListed (l .moves) };
-  angles = anglesListed (l .states);
-  modes = modesListed (l .states);
-}
+-- the table that a file's contents say
+unfoldable pub controlOf : Contents → Control
+controlOf l =
+    control (table (length (l .states)) (setOfEntries (l .starts)) (setOfEntries (l .safe)) (rowsOfEntries (l .moves)))
+    (anglesOfEntries (l .states))
+    (modesOfEntries (l .states))
 
--- ---- to a listing
--- state s as a file lists it
-unfoldable pub listState : List ℤ → List ℕ → ℕ → ℕ
-listState angles modes s = unsigned (getD angles s (pos 0)) * 256 + getD modes s 0
+-- ---- to entries
+-- the entry of state s
+unfoldable pub stateNumber : List ℤ → List ℕ → ℕ → ℕ
+stateNumber angles modes s = unsigned (getD angles s (pos 0)) * 256 + getD modes s 0
 
 -- whether number v is a move of the table
 unfoldable pub isMove : List ℕ → ℕ → Bool
 isMove rows v = leads rows (v / 65536) (v % 65536)
 
--- the listing of a table: states in their order, members and moves rising
-unfoldable pub listingOf : Control → Listing
-listingOf c = record {
-  states = tabulate (c .table .size) (listState (c .angles) (c .modes));
+-- what the file of a table holds: states in their order, members and moves rising
+unfoldable pub contentsOf : Control → Contents
+contentsOf c = record {
+  states = tabulate (c .table .size) (stateNumber (c .angles) (c .modes));
   starts = passing (member (c .table .starts)) 0 256;
   safe = passing (member (c .table .safe)) 0 256;
   moves = passing (isMove (c .table .rows)) 0 (256 * 65536);
@@ -72,7 +63,7 @@ listingOf c = record {
 
 -- the bytes of a table
 unfoldable pub fileOf : Control → List ℕ
-fileOf c = fileBytes (listingOf c)
+fileOf c = fileBytes (contentsOf c)
 
 -- ---- what is refused
 -- the move table, the angles and the modes have their lengths
@@ -99,25 +90,23 @@ labelAt angles modes s = isAngle (getD angles s (pos 0)) && ltb (getD modes s 0)
 unfoldable pub labelled : ℕ → List ℤ → List ℕ → Bool
 labelled N angles modes = all N (labelAt angles modes)
 
--- the first refusal of a table whose move table, angles and modes have their lengths, 0 for none
-unfoldable pub tableRefusal : Control → ℕ
-tableRefusal c =
-    cond (not (inRange (c .table .size))) outOfRange
-    (cond (not (soundTable (c .table) && clearPast (c .table .size) (c .angles) (c .modes))) notSound
-    (cond (not (labelled (c .table .size) (c .angles) (c .modes))) badLabel noRefusal))
-
 -- the first refusal of writing to an output of a length, 0 for none
 unfoldable pub writeRefusal : Control → ℕ → ℕ
 writeRefusal c room =
-    cond (not (sized (c .table .rows) (c .angles) (c .modes))) wrongLength
-    (cond (not (eqb (tableRefusal c) noRefusal)) (tableRefusal c)
-    (cond (ltb 4096 (length (listingOf c .moves))) outOfRange
-    (cond (ltb room (length (fileOf c))) shortOutput noRefusal)))
+    firstFailing
+    (wrongLength unless sized (c .table .rows) (c .angles) (c .modes)
+    ∷ outOfRange unless inRange (c .table .size)
+    ∷ notSound unless soundTable (c .table)
+    ∷ notSound unless clearPast (c .table .size) (c .angles) (c .modes)
+    ∷ badLabel unless labelled (c .table .size) (c .angles) (c .modes)
+    ∷ outOfRange unless leb (moveCount (c .table .rows)) 4096
+    ∷ shortOutput unless leb (length (fileOf c)) room
+    ∷ [])
 
 -- the bytes to be written, or the refusal
 unfoldable pub writing : Control → ℕ → Answer (List ℕ)
-writing c room = cond (eqb (writeRefusal c room) noRefusal) (given (fileOf c)) (refused (writeRefusal c room))
+writing c room = unlessRefused (writeRefusal c room) (fileOf c)
 
--- the listing of a file, where the lent buffers have these lengths
-unfoldable pub reading : List ℕ → List ℕ → List ℤ → List ℕ → Taken Listing
-reading b rows angles modes = cond (sized rows angles modes) (listing b) (refusedAt wrongLength 0)
+-- the contents of a file, where the lent buffers have these lengths
+unfoldable pub reading : List ℕ → List ℕ → List ℤ → List ℕ → Taken Contents
+reading b rows angles modes = cond (sized rows angles modes) (contents b) (refusedAt wrongLength 0)

@@ -2,4 +2,4 @@ pub mod Lists
 pub mod Format
 pub mod Control
 pub mod Said
-pub mod Steps
+pub mod Inner

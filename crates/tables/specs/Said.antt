@@ -9,7 +9,8 @@ use Rattle.answers.specs.Answer.{Answer, refused, given}
 use Rattle.answers.specs.Refusals.{noRefusal}
 use Rattle.sets.specs.Sets.{empty}
 use Rattle.tables.specs.Format.{Section, Taken, refusedAt, taken, andThen, section, past}
-use Rattle.tables.specs.Control.{Control, controlOf, reading, writing}
+use Rattle.moves.specs.Models.{Control}
+use Rattle.tables.specs.Control.{controlOf, reading, writing}
 use Rattle.tables.specs.declared.Step.{Step}
 use Rattle.tables.specs.declared.Step.the-variants as step
 use Rattle.tables.specs.declared.Reading.{Reading}
@@ -28,30 +29,30 @@ sectionStep S b at = andThen (section S b at) (λ vs. taken (length vs, past (S 
 
 -- ---- reading
 -- the refusal's number and the byte offset, 0 where there is none
-abbrev pub refusalOf : {A : Type 0} → Taken A → ℕ
-refusalOf (refusedAt k at) = k
-refusalOf (taken a) = noRefusal
+abbrev pub numberOf : {A : Type 0} → Taken A → ℕ
+numberOf (refusedAt k at) = k
+numberOf (taken a) = noRefusal
 
 abbrev pub offsetOf : {A : Type 0} → Taken A → ℕ
 offsetOf (refusedAt k at) = at
 offsetOf (taken a) = 0
 
 -- what was taken, or something else where it was refused
-abbrev pub orElse : {A B : Type 0} → Taken A → (A → B) → B → B
-orElse (refusedAt k at) h other = other
-orElse (taken a) h other = h a
+abbrev pub ifTaken : {A B : Type 0} → Taken A → (A → B) → B → B
+ifTaken (refusedAt k at) h other = other
+ifTaken (taken a) h other = h a
 
 -- the promise of `read`: of a file and three buffers, what it answers and what they hold then
 pub record Read (file rows : List ℕ) (angles : List ℤ) (modes : List ℕ) (r : Reading) (rows′ : List ℕ) (angles′ : List ℤ) (modes′ : List ℕ) : Type 0 where
-  pub refusal : r .refusal ≡ refusalOf (reading file rows angles modes)
+  pub refusal : r .refusal ≡ numberOf (reading file rows angles modes)
   pub offset : r .offset ≡ offsetOf (reading file rows angles modes)
-  pub n : r .n ≡ orElse (reading file rows angles modes) (λ l. controlOf l .table .size) 0
-  pub starts : r .starts .words ≡ orElse (reading file rows angles modes) (λ l. controlOf l .table .starts) empty
-  pub safe : r .safe .words ≡ orElse (reading file rows angles modes) (λ l. controlOf l .table .safe) empty
-  pub moves : r .moves ≡ orElse (reading file rows angles modes) (λ l. length (l .moves)) 0
-  pub filled-rows : rows′ ≡ orElse (reading file rows angles modes) (λ l. controlOf l .table .rows) rows
-  pub filled-angles : angles′ ≡ orElse (reading file rows angles modes) (λ l. controlOf l .angles) angles
-  pub filled-modes : modes′ ≡ orElse (reading file rows angles modes) (λ l. controlOf l .modes) modes
+  pub model-size : r .model .size ≡ ifTaken (reading file rows angles modes) (λ l. controlOf l .table .size) 0
+  pub starts : r .model .starts .words ≡ ifTaken (reading file rows angles modes) (λ l. controlOf l .table .starts) empty
+  pub safe : r .model .safe .words ≡ ifTaken (reading file rows angles modes) (λ l. controlOf l .table .safe) empty
+  pub moves : r .moves ≡ ifTaken (reading file rows angles modes) (λ l. length (l .moves)) 0
+  pub filled-rows : rows′ ≡ ifTaken (reading file rows angles modes) (λ l. controlOf l .table .rows) rows
+  pub filled-angles : angles′ ≡ ifTaken (reading file rows angles modes) (λ l. controlOf l .angles) angles
+  pub filled-modes : modes′ ≡ ifTaken (reading file rows angles modes) (λ l. controlOf l .modes) modes
 
 -- ---- writing
 -- the file's length, and a refusal its number

@@ -1,30 +1,35 @@
--- `budget` meets its contract.
+-- `budget` meets its contract: the square of a 16-bit number is far from 64 bits.
 use borrow.Author.Needs.{needs}
-use Rattle.checks.proofs.budget.Statement.{statement}
-use Rattle.checks.proofs.budget.Tie as tie
-use Prim.Native.Nat.{ℕ, _*_, _≤_}
+use Prim.Native.Nat.{ℕ, _+_, _*_, _^_, _≤_, _<_}
 use native.Mathlib.Nat.{mul-le-mul-right}
 use native.Mathlib.Omega.{arith}
+use mir.Syntax.{w64}
+use mir.Val.{Fits}
+use Rattle.checks.proofs.budget.Statement.{statement}
+use Rattle.checks.proofs.budget.Tie as tie
 
--- the square of a 16-bit number is far from 64 bits
-square : (n : ℕ) → n ≤ 65535 → n * n ≤ 65535 * n
-square n h = mul-le-mul-right n h
+module _ (n : ℕ) (small : n < 2 ^ 16) where
+  square : n * n ≤ 65535 * n
+  square = mul-le-mul-right n (omega arith)
 
-mul-result : tie.Need-mul-result
-mul-result c = let s = square (c .args .n) (omega (arith, c .fits .n .fits)) in record { fits = omega (arith, c .fits .n .fits, s) }
+  square-fits : Fits w64 (n * n)
+  square-fits = record { fits = omega (arith, square) }
 
-mul-result-2 : tie.Need-mul-result-2
-mul-result-2 c = let s = square (c .args .n) (omega (arith, c .fits .n .fits)) in record { fits = omega (arith, c .fits .n .fits, s) }
+  twice-fits : Fits w64 (2 * (n * n))
+  twice-fits = record { fits = omega (arith, square) }
 
-add-result : tie.Need-add-result
-add-result c = let s = square (c .args .n) (omega (arith, c .fits .n .fits)) in record { fits = omega (arith, c .fits .n .fits, s) }
+  budget-fits : Fits w64 (2 * (n * n) + 2 * n)
+  budget-fits = record { fits = omega (arith, square) }
+
+returns : tie.Need-returns
+returns c = search needs
 
 pub budget-spec : {M : Type 1} → statement M
 budget-spec =
     tie.close
     (tie.spec
-    mul-result
-    mul-result-2
+    (λ c. search (square-fits, needs))
+    (λ c. search (twice-fits, needs))
     (λ c. search needs)
-    add-result
-    (λ c. search needs))
+    (λ c. search (budget-fits, needs))
+    returns)

@@ -1,22 +1,26 @@
--- `check` meets its contract. The file is read, and its refusal listed or its table searched.
+-- `check` meets its contract: the file is read, and its refusal listed or its table searched.
 use borrow.Author.Needs.{needs}
+use Rattle.tables.proofs.Inverse.{Bytes}
+use Rattle.checks.proofs.Readings.{refused-file, read-sought, read-file}
 use Rattle.checks.proofs.check.Statement.{statement}
 use Rattle.checks.proofs.check.Tie as tie
-use Rattle.tables.proofs.Inverse.{Bytes}
-use Rattle.checks.proofs.Readings.{refused-lists, read-sought, read-lists}
 
 -- the file is bytes
-bytes : (c : tie.Else1) → Bytes (c .before .before .before .before .before .before .before .before .before .before .before .args .file .now)
-bytes c = record { byte = λ i. c .before .before .before .before .before .before .before .before .before .before .shared-slice-known .given i .fits }
+bytes : (c : tie.After-shared-slice-known) → Bytes (c .before .args .file .now)
+bytes c = record { byte = λ i. c .shared-slice-known .given i .fits }
+
+-- the file that was read
+abbrev lent : tie.Else1 → tie.After-shared-slice-known
+lent c = c .before .before .before .before .before .before .before .before .before .before
 
 returns : tie.Need-returns
-returns c = refused-lists (c .before .before .before .before .before .before .before .before .before .read .ensures) (search needs) (search needs) (search needs) (c .before .before .before .before .if1 .taken) (c .before .before .refused .ensures)
+returns c = search (refused-file, needs)
 
 search-requires : tie.Need-search-requires
-search-requires c κs = read-sought (c .before .before .before .before .before .before .before .before .before .read .ensures) (search needs) (search needs) (search needs) (bytes (c .before .before .before .before)) (c .before .before .before .before .if1 .left)
+search-requires c κs = search (read-sought, bytes (lent (c .before .before .before .before)), needs)
 
 returns-2 : tie.Need-returns-2
-returns-2 c = read-lists (c .before .before .before .before .before .before .before .before .before .before .before .before .read .ensures) (search needs) (search needs) (search needs) (bytes (c .before .before .before .before .before .before .before)) (c .before .before .before .before .before .before .before .if1 .left) (c .before .before .search .ensures)
+returns-2 c = search (read-file, bytes (lent (c .before .before .before .before .before .before .before)), needs)
 
 pub check-spec : {M : Type 1} → statement M
 check-spec =

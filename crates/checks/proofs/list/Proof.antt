@@ -1,24 +1,20 @@
--- `list` meets its contract. Each case has its own call.
+-- `list` meets its contract: each answer of a run has its own call.
 use borrow.Author.Needs.{needs}
+use Rattle.checks.proofs.Verdicts.{safe-lists, reached-lists, unfinished-lists, refused-lists}
 use Rattle.checks.proofs.list.Statement.{statement}
 use Rattle.checks.proofs.list.Tie as tie
-use Rattle.checks.specs.Steps.{answerWanted}
 
 returns : tie.Need-returns
-unfolding answerWanted
-returns c = rw (c .before .before .before .before .before .outcome .given .1) (c .before .before .safe .ensures)
+returns c = search (safe-lists, needs)
 
 returns-2 : tie.Need-returns-2
-unfolding answerWanted
-returns-2 c = rw (c .before .before .before .before .before .outcome2 .given .1) (c .before .before .reached .ensures)
+returns-2 c = search (reached-lists, needs)
 
 returns-3 : tie.Need-returns-3
-unfolding answerWanted
-returns-3 c = rw (c .before .before .before .before .enum-told .given .1) (c .before .before .refused .ensures)
+returns-3 c = search (unfinished-lists, needs)
 
 returns-4 : tie.Need-returns-4
-unfolding answerWanted
-returns-4 c = rw (c .before .before .before .before .before .outcome3 .given .1) (c .before .before .refused2 .ensures)
+returns-4 c = search (refused-lists, needs)
 
 pub list-spec : {M : Type 1} → statement M
 list-spec =

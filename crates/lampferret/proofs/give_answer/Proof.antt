@@ -1,22 +1,22 @@
+-- `give_answer` meets its contract: five words for each way that a run ends, or the refusal.
 use borrow.Author.Needs.{needs}
+use mathlib.Core.Path.{refl}
+use Rattle.lampferret.proofs.Giving.{answer-given}
+use Rattle.lampferret.specs.Boundary.{outcomeWords}
 use Rattle.lampferret.proofs.give_answer.Statement.{statement}
 use Rattle.lampferret.proofs.give_answer.Tie as tie
-use mathlib.Core.Path.{ap, refl}
-use Rattle.runs.specs.Said.{said}
-use Rattle.lampferret.specs.Boundary.{inWords, shownWords}
-use Rattle.lampferret.proofs.Giving.{gives-given}
 
 returns : tie.Need-returns
-unfolding shownWords
-returns c = gives-given (ap (λ o. inWords (λ s. shownWords s (c .before .before .before .args .a .rules) (c .before .before .before .args .a .taken) (c .before .before .before .args .a .used)) (said o)) (c .before .enum-told .given .1)) refl
+unfolding outcomeWords
+returns c = answer-given _ _ _ (c .before .enum-told .given .1) refl refl
 
 returns-2 : tie.Need-returns-2
-unfolding shownWords
-returns-2 c = gives-given (ap (λ o. inWords (λ s. shownWords s (c .before .before .before .before .args .a .rules) (c .before .before .before .before .args .a .taken) (c .before .before .before .before .args .a .used)) (said o)) (c .before .before .outcome .given .1)) refl
+unfolding outcomeWords
+returns-2 c = answer-given _ _ _ (c .before .before .outcome .given .1) refl refl
 
 returns-3 : tie.Need-returns-3
-unfolding shownWords
-returns-3 c = gives-given (ap (λ o. inWords (λ s. shownWords s (c .before .before .before .before .args .a .rules) (c .before .before .before .before .args .a .taken) (c .before .before .before .before .args .a .used)) (said o)) (c .before .before .outcome2 .given .1)) refl
+unfolding outcomeWords
+returns-3 c = answer-given _ _ _ (c .before .before .outcome2 .given .1) refl refl
 
 pub give-answer-spec : {M : Type 1} → statement M
 give-answer-spec =

@@ -1,3 +1,4 @@
+-- `give_rule` meets its contract: the number of the rule fired, or the refusal.
 use borrow.Author.Needs.{needs}
 use Rattle.lampferret.proofs.give_rule.Statement.{statement}
 use Rattle.lampferret.proofs.give_rule.Tie as tie

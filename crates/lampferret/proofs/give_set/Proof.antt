@@ -1,3 +1,4 @@
+-- `give_set` meets its contract: a refusal keeps the old words.
 use Rattle.lampferret.proofs.give_set.Statement.{statement}
 use Rattle.lampferret.proofs.give_set.Tie as tie
 use Rattle.lampferret.proofs.Giving.{kept-old, kept-new}

@@ -1,3 +1,4 @@
+-- `give_turn` meets its contract: the turn, which fits 16 bits, or the refusal.
 use borrow.Author.Needs.{needs}
 use Rattle.lampferret.proofs.give_turn.Statement.{statement}
 use Rattle.lampferret.proofs.give_turn.Tie as tie

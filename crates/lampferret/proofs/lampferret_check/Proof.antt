@@ -1,3 +1,4 @@
+-- `lampferret_check` meets its contract: what `check` promises.
 use borrow.Author.Needs.{needs}
 use Rattle.lampferret.proofs.lampferret_check.Statement.{statement}
 use Rattle.lampferret.proofs.lampferret_check.Tie as tie

@@ -1,3 +1,4 @@
+-- `lampferret_count` meets its contract: what `count` promises of the lent words.
 use borrow.Author.Needs.{needs}
 use Rattle.lampferret.proofs.lampferret_count.Statement.{statement}
 use Rattle.lampferret.proofs.lampferret_count.Tie as tie

@@ -1,3 +1,4 @@
+-- `lampferret_f` meets its contract: what `f` promises of the lent words.
 use borrow.Author.Needs.{needs}
 use Rattle.lampferret.proofs.lampferret_f.Statement.{statement}
 use Rattle.lampferret.proofs.lampferret_f.Tie as tie

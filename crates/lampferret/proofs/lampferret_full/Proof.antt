@@ -1,3 +1,4 @@
+-- `lampferret_full` meets its contract: what `full` promises.
 use borrow.Author.Needs.{needs}
 use Rattle.lampferret.proofs.lampferret_full.Statement.{statement}
 use Rattle.lampferret.proofs.lampferret_full.Tie as tie

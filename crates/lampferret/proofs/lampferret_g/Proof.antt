@@ -1,3 +1,4 @@
+-- `lampferret_g` meets its contract: what `g` promises of the lent words.
 use borrow.Author.Needs.{needs}
 use Rattle.lampferret.proofs.lampferret_g.Statement.{statement}
 use Rattle.lampferret.proofs.lampferret_g.Tie as tie

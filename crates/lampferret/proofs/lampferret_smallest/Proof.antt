@@ -1,3 +1,4 @@
+-- `lampferret_smallest` meets its contract: what `smallest` promises of the lent words.
 use borrow.Author.Needs.{needs}
 use Rattle.lampferret.proofs.lampferret_smallest.Statement.{statement}
 use Rattle.lampferret.proofs.lampferret_smallest.Tie as tie

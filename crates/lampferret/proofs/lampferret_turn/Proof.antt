@@ -1,3 +1,4 @@
+-- `lampferret_turn` meets its contract: what `turn` promises of two integers of 16 bits.
 use borrow.Author.Needs.{needs}
 use Rattle.lampferret.proofs.lampferret_turn.Statement.{statement}
 use Rattle.lampferret.proofs.lampferret_turn.Tie as tie
@@ -6,7 +7,9 @@ use mir.ValLaws.{toZ-ofZ}
 use Rattle.lampferret.proofs.Giving.{passed}
 
 returns : tie.Need-returns
-returns c = passed (c .give-turn .ensures) (rw (toZ-ofZ w16 _ (c .before .before .before .fits .a), toZ-ofZ w16 _ (c .before .before .before .fits .b)) at (c .before .before .turn .ensures))
+returns c =
+    let start = c .before .before .before in
+    passed (c .give-turn .ensures) (rw (toZ-ofZ w16 _ (start .fits .a), toZ-ofZ w16 _ (start .fits .b)) at (c .before .before .turn .ensures))
 
 pub lampferret-turn-spec : {M : Type 1} → statement M
 lampferret-turn-spec =

@@ -1,3 +1,4 @@
+-- `rule_number` meets its contract: rule by rule.
 use borrow.Author.Needs.{needs}
 use Rattle.lampferret.proofs.rule_number.Statement.{statement}
 use Rattle.lampferret.proofs.rule_number.Tie as tie

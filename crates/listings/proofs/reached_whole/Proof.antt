@@ -1,15 +1,14 @@
--- `reached_whole` meets its contract.
+-- `reached_whole` meets its contract: the listing is measured in no output, and put into one that holds it.
 use borrow.Author.Needs.{needs}
+use Rattle.listings.proofs.Lists.{lists-short, lists-whole}
 use Rattle.listings.proofs.reached_whole.Statement.{statement}
 use Rattle.listings.proofs.reached_whole.Tie as tie
-use native.Mathlib.Omega.{arith}
-use Rattle.listings.proofs.Lists.{lists-short, lists-whole}
 
 returns : tie.Need-returns
-returns c = lists-short _ (omega arith) (c .before .before .reached-run .ensures) (c .if1 .taken)
+returns c = search (lists-short, needs)
 
 returns-2 : tie.Need-returns-2
-returns-2 c = lists-whole _ (omega arith) (c .before .before .before .before .before .before .reached-run .ensures) (c .before .before .before .before .if1 .left) (c .before .before .reached-run2 .ensures)
+returns-2 c = search (lists-whole, needs)
 
 pub reached-whole-spec : {M : Type 1} → statement M
 reached-whole-spec =

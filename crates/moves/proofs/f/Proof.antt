@@ -1,3 +1,4 @@
+-- `f` meets its contract: refused, or f worked out without tests on rows that are sound.
 use borrow.Author.Needs.{needs}
 use Rattle.moves.proofs.f.Statement.{statement}
 use Rattle.moves.proofs.f.Tie as tie

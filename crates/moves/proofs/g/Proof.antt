@@ -1,3 +1,4 @@
+-- `g` meets its contract: refused, or g worked out without tests on rows that are sound.
 use borrow.Author.Needs.{needs}
 use Rattle.moves.proofs.g.Statement.{statement}
 use Rattle.moves.proofs.g.Tie as tie

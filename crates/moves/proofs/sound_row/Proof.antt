@@ -1,3 +1,4 @@
+-- `sound_row` meets its contract: nothing from N up in a row below N, nothing at all in one from N up.
 use borrow.Author.Needs.{needs}
 use Rattle.moves.proofs.sound_row.Statement.{statement}
 use Rattle.moves.proofs.sound_row.Tie as tie

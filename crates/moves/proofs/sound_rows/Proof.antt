@@ -1,36 +1,30 @@
+-- `sound_rows` meets its contract: every row passed so far is sound.
 use borrow.Author.Needs.{needs}
+use Prim.Native.Nat.{_-_}
+use Rattle.rules.proofs.Loops.{AllSoFar, all-begins, all-goes, all-fails, all-ends}
+use Rattle.rules.specs.Table.{soundRow, soundRows}
 use Rattle.moves.proofs.sound_rows.Statement.{statement}
 use Rattle.moves.proofs.sound_rows.Tie as tie
-use Prim.Native.Nat.{_≤_, _-_}
-use mathlib.Core.Bool.{true}
-use mathlib.Core.Path.{_≡_, sym, _∙_}
-use native.Mathlib.Omega.{arith}
-use Rattle.sets.specs.Search.{all}
-use Rattle.sets.proofs.Search.{all-none, all-more, all-stop}
-use Rattle.sets.proofs.Tests.{not-true, not-false}
-use Rattle.rules.specs.Table.{soundRow, soundRows}
 
 abbrev Inv-loop : tie.InvT-loop
-Inv-loop moves n s₀ s = (s ≤ 256) × (all s (soundRow n moves) ≡ true)
+Inv-loop moves size s₀ s = AllSoFar (soundRow size moves) 256 s
 
 abbrev μ-loop : tie.MeasureT-loop
-μ-loop moves n s₀ s = 256 - s
+μ-loop moves size s₀ s = 256 - s
 
 loop-holds : tie.Need-loop-holds Inv-loop μ-loop
-unfolding soundRows
-loop-holds c = (search needs, all-none _)
+loop-holds c = search (all-begins, needs)
 
 returns : tie.Need-returns Inv-loop μ-loop
 unfolding soundRows
-returns c = sym (all-stop 256 (soundRow _ _) (c .before .before .before .loop .s) (omega arith) (sym (c .before .sound-row .ensures) ∙ not-true _ (c .if1 .taken)))
+returns c = search (all-fails, needs)
 
 loop-again : tie.Need-loop-again Inv-loop μ-loop
-unfolding soundRows
-loop-again c = (search needs, all-more (c .before .before .before .loop .s) (soundRow _ _) (c .before .before .before .loop .inv .1) (sym (c .before .sound-row .ensures) ∙ not-false _ (c .if1 .left)))
+loop-again c = search (all-goes, needs)
 
 returns-2 : tie.Need-returns-2 Inv-loop μ-loop
 unfolding soundRows
-returns-2 c = let e : c .before .loop .s ≡ 256 = omega arith in sym (rw e at (c .before .loop .inv .1))
+returns-2 c = search (all-ends, needs)
 
 pub sound-rows-spec : {M : Type 1} → statement M
 sound-rows-spec =

@@ -1,21 +1,17 @@
-use mathlib.Core.Path.{sym, _∙_}
+-- `sound_table` meets its contract: the starts, the safe states, then the rows.
 use borrow.Author.Needs.{needs}
-use Rattle.rules.specs.Table.{soundTable}
-use Rattle.sets.proofs.Tests.{not-true, not-false}
+use Rattle.moves.proofs.Rows.{unsound-starts, unsound-safe, sound-rest}
 use Rattle.moves.proofs.sound_table.Statement.{statement}
 use Rattle.moves.proofs.sound_table.Tie as tie
 
 returns : tie.Need-returns
-unfolding soundTable
-returns c = rw (sym (c .before .sound .ensures) ∙ not-true _ (c .if1 .taken))
+returns c = search (unsound-starts, needs)
 
 returns-2 : tie.Need-returns-2
-unfolding soundTable
-returns-2 c = rw (sym (c .before .before .before .sound .ensures) ∙ not-false _ (c .before .before .if1 .left), sym (c .before .sound2 .ensures) ∙ not-true _ (c .if2 .taken))
+returns-2 c = search (unsound-safe, needs)
 
 returns-3 : tie.Need-returns-3
-unfolding soundTable
-returns-3 c = c .sound-rows .ensures ∙ rw (sym (c .before .before .before .before .sound .ensures) ∙ not-false _ (c .before .before .before .if1 .left), sym (c .before .before .sound2 .ensures) ∙ not-false _ (c .before .if2 .left))
+returns-3 c = search (sound-rest, needs)
 
 pub sound-table-spec : {M : Type 1} → statement M
 sound-table-spec =

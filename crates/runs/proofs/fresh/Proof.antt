@@ -29,6 +29,7 @@ fresh-spec =
     returns-2
     (λ c κs. search needs)
     (λ c κs. search needs)
+    (λ c κs. search needs)
     (λ c. search needs)
     slice-write-buf-2
     same-length

@@ -1,5 +1,7 @@
--- `tables::section_of` meets its contract: a walk of its MIR, by hand. A `Reader` that one call returns is held in a local and passed to the next. All that the proof knows of `new` and of `next` is that each meets its contract.
--- The machine value that `new` returns is stored and passed on as it is. In a local of a body MIR erases the lifetime of the struct's type, so the value is shown to have the type at `erased`: what the struct owns does not say the lifetime's name.
+-- `tables::section_of` meets its contract: a walk of its MIR, by hand. A `Reader` that one call, `new`, returns is held in a local
+-- and passed to the next, `next`. All that the proof knows of the two is that each meets its contract.
+-- The machine value that `new` returns is stored and passed on as it is. In a local of a body MIR erases the lifetime of the struct's
+-- type, so the value is shown to have the type at `erased`: what the struct owns does not say the lifetime's name.
 -- Assumes nothing.
 use mathlib.Core.Path.{_≡_, refl, ap, _∙_}
 use Prim.Native.Nat.{ℕ, _<_, _^_}
@@ -74,7 +76,8 @@ module _ {M : Type 1} (𝓤 : URA M) (H : Heap 𝓤) (A : Atoms 𝓤) (mem : Mem
   abbrev Next : Contract 𝓤
   Next = tripleOf 𝓤 H A next.signature (next.spec 𝓤 H A mem run)
 
-module _ {M : Type 1} (𝓤 : URA M) (H : Heap 𝓤) (A : Atoms 𝓤) (W : Given 𝓤 H A) (mem : Memory → SProp 𝓤) (run : Routine → Fun 𝓤) (κ : Lft) (q : Share) (s : RefT (List ℕ)) (p k n : ℕ) (okp : p < 2 ^ 64) (okk : k < 2 ^ 64) (okn : n < 2 ^ 64) where
+module _ {M : Type 1} (𝓤 : URA M) (H : Heap 𝓤) (A : Atoms 𝓤) (W : Given 𝓤 H A) (mem : Memory → SProp 𝓤) (run : Routine → Fun 𝓤) (κ : Lft) (q : Share)
+    (s : RefT (List ℕ)) (p k n : ℕ) (okp : p < 2 ^ 64) (okk : k < 2 ^ 64) (okn : n < 2 ^ 64) where
   -- the machine value that s has
   abbrev v : Val
   v = sliceVal (s .ptr) (length (s .now))
@@ -105,60 +108,113 @@ module _ {M : Type 1} (𝓤 : URA M) (H : Heap 𝓤) (A : Atoms 𝓤) (W : Given
       qed W ((‵ (flft κ q) ⊛ ‵ ftrue) ∷ ‵ (owns (ShrSlice (named 0) κ u8 ∷ usize ∷ usize ∷ usize ∷ []) (s, (p, (k, (n, tt)))) at) ∷ []) ∵
       move ! (1 ∷ []) $ fsplit ! $ move ! (1 ∷ []) $ drop ! $ use1 W (‵ Own ⊛ ‵ Own) (shr-slice-copy 𝓤 H A W (named 0) κ u8 .twice s (v ∷ [])) $ split ! $
       nothing ! $ owned ! usize (Is usize) (uint-makes 𝓤 H A W w64) p _ (refl, okp) $ fjoin ! $ move ! (1 ∷ 0 ∷ []) $ fjoin ! $
-      move ! (2 ∷ 0 ∷ []) $ use2 W (raw (New 𝓤 H A mem run .pre to-new)) (qed W ((‵ (flft κ q) ⊛ ‵ ftrue) ∷ ‵ (owns (ShrSlice (named 0) κ u8 ∷ usize ∷ []) (s, (p, tt)) (v ∷ [], (vint w64 p ∷ [], tt))) ∷ []) ∵ join ! $ frame ! $ done !) $ frame ! $ done !
+      move ! (2 ∷ 0 ∷ []) $ use2 W (raw (New 𝓤 H A mem run .pre to-new))
+      (qed W ((‵ (flft κ q) ⊛ ‵ ftrue) ∷ ‵ (owns (ShrSlice (named 0) κ u8 ∷ usize ∷ []) (s, (p, tt)) (v ∷ [], (vint w64 p ∷ [], tt))) ∷ []) ∵
+      join ! $ frame ! $ done !) $ frame ! $ done !
 
-  new-said : (r : Reader) → ent 𝓤 (ensured 𝓤 H A new.ended (new.clauses 𝓤 H A mem run) (κ, tt) (s, (p, tt)) tt r) (fact 𝓤 ((r .file ≡ s) × (r .at ≡ p)))
-  new-said r = exE 𝓤 _ (λ ws. snd∗ 𝓤 (sem 𝓤 H A (lasts new.ended (κ, tt) (s, (p, tt)) ws)) (fact 𝓤 ((r .file ≡ s) × (r .at ≡ p))))
+  abbrev At : Reader → Type 0
+  At r = (r .file ≡ s) × (r .at ≡ p)
+
+  abbrev NewTold : Reader → SProp 𝓤
+  NewTold r = ensured 𝓤 H A new.ended (new.clauses 𝓤 H A mem run) (κ, tt) (s, (p, tt)) tt r
+
+  new-said : (r : Reader) → ent 𝓤 (NewTold r) (fact 𝓤 (At r))
+  new-said r = exE 𝓤 _ (λ ws. snd∗ 𝓤 (sem 𝓤 H A (lasts new.ended (κ, tt) (s, (p, tt)) ws)) (fact 𝓤 (At r)))
 
   -- the call of `next`, at the struct r with the machine value u
   abbrev to-next : Reader → Val → Next 𝓤 H A mem run .Ghost
   to-next r u = (((κ, tt), (q, tt), tt, (r, (k, (n, tt))), (u ∷ [], (vint w64 k ∷ [], (vint w64 n ∷ [], tt)))), tt)
 
   goes-next : (r : Reader) (u : Val) → ent 𝓤 (⋆ 𝓤 H A (‵ (B (κ, tt) .own r (u ∷ [])) ∷ (‵ (flft κ q) ⊛ ‵ ftrue) ∷ [])) (Next 𝓤 H A mem run .pre (to-next r u))
-  goes-next r u = qed W (‵ (B (κ, tt) .own r (u ∷ [])) ∷ (‵ (flft κ q) ⊛ ‵ ftrue) ∷ []) ∵ nothing ! $ owned ! usize (Is usize) (uint-makes 𝓤 H A W w64) n _ (refl, okn) $ fjoin ! $ owned ! usize (Is usize) (uint-makes 𝓤 H A W w64) k _ (refl, okk) $ fjoin ! $ move ! (1 ∷ 0 ∷ []) $ fjoin ! $ move ! (1 ∷ 0 ∷ []) $ join ! $ frame ! $ done !
+  goes-next r u =
+      qed W (‵ (B (κ, tt) .own r (u ∷ [])) ∷ (‵ (flft κ q) ⊛ ‵ ftrue) ∷ []) ∵ nothing ! $ owned ! usize (Is usize) (uint-makes 𝓤 H A W w64) n _ (refl, okn) $
+      fjoin ! $ owned ! usize (Is usize) (uint-makes 𝓤 H A W w64) k _ (refl, okk) $ fjoin ! $ move ! (1 ∷ 0 ∷ []) $ fjoin ! $ move ! (1 ∷ 0 ∷ []) $ join ! $
+      frame ! $ done !
 
-  next-said : (r : Reader) (t : Step) → ent 𝓤 (ensured 𝓤 H A next.ended (next.clauses 𝓤 H A mem run) (κ, tt) (r, (k, (n, tt))) tt t) (fact 𝓤 (said t ≡ sectionStep (sectionNumber k n) (now (r .file)) (r .at)))
-  next-said r t = exE 𝓤 _ (λ ws. snd∗ 𝓤 (sem 𝓤 H A (lasts next.ended (κ, tt) (r, (k, (n, tt))) ws)) (fact 𝓤 (said t ≡ sectionStep (sectionNumber k n) (now (r .file)) (r .at))))
+  abbrev Taken-as : Reader → Step → Type 0
+  Taken-as r t = said t ≡ sectionStep (sectionNumber k n) (now (r .file)) (r .at)
+
+  abbrev NextTold : Reader → Step → SProp 𝓤
+  NextTold r t = ensured 𝓤 H A next.ended (next.clauses 𝓤 H A mem run) (κ, tt) (r, (k, (n, tt))) tt t
+
+  next-said : (r : Reader) (t : Step) → ent 𝓤 (NextTold r t) (fact 𝓤 (Taken-as r t))
+  next-said r t = exE 𝓤 _ (λ ws. snd∗ 𝓤 (sem 𝓤 H A (lasts next.ended (κ, tt) (r, (k, (n, tt))) ws)) (fact 𝓤 (Taken-as r t)))
 
   exits : (t : Step) (u : Val) → said t ≡ found → ent 𝓤 (⋆ 𝓤 H A (‵ (S.the-row .own t (u ∷ [])) ∷ (‵ (flft κ q) ⊛ ‵ ftrue) ∷ ‵ Own ∷ [])) (Post u)
   exits t u e =
       qed W (‵ (S.the-row .own t (u ∷ [])) ∷ (‵ (flft κ q) ⊛ ‵ ftrue) ∷ ‵ Own ∷ []) ∵
-      suffices ! _ (ends-at 𝓤 H A sof.ended stayed (sof.clauses 𝓤 H A mem run) W (((κ, tt), (q, tt), tt, (s, (p, (k, (n, tt)))), at), tt) u t (tt, (tt, (tt, (tt, tt)))) (tt, (tt, (tt, (tt, tt))))) $ says ! e $
-      move ! (1 ∷ []) $ frame ! $ nothing ! $ owned ! usize (Is usize) (uint-makes 𝓤 H A W w64) n _ (refl, okn) $ fjoin ! $ owned ! usize (Is usize) (uint-makes 𝓤 H A W w64) k _ (refl, okk) $ fjoin ! $ owned ! usize (Is usize) (uint-makes 𝓤 H A W w64) p _ (refl, okp) $ fjoin ! $ move ! (2 ∷ 0 ∷ []) $ fjoin ! $ frame ! $ done !
+      suffices ! _
+      (ends-at 𝓤 H A sof.ended stayed (sof.clauses 𝓤 H A mem run) W (((κ, tt), (q, tt), tt, (s, (p, (k, (n, tt)))), at), tt) u t
+      (tt, (tt, (tt, (tt, tt)))) (tt, (tt, (tt, (tt, tt))))) $ says ! e $
+      move ! (1 ∷ []) $ frame ! $ nothing ! $ owned ! usize (Is usize) (uint-makes 𝓤 H A W w64) n _ (refl, okn) $ fjoin ! $
+      owned ! usize (Is usize) (uint-makes 𝓤 H A W w64) k _ (refl, okk) $ fjoin ! $ owned ! usize (Is usize) (uint-makes 𝓤 H A W w64) p _ (refl, okp) $
+      fjoin ! $ move ! (2 ∷ 0 ∷ []) $ fjoin ! $ frame ! $ done !
 
-  module _ (C : Calls 𝓤 H) (Λ : Loops 𝓤 H) (fm : FmC 𝓤 H (W .laws) C) (known-new : Triple 𝓤 (C #tables·open-at) (New 𝓤 H A mem run)) (known-next : Triple 𝓤 (C #tables·take) (Next 𝓤 H A mem run)) where
-    walk : Is (ShrSlice (named 0) κ u8) s (v ∷ []) → ent 𝓤 (onEntry 𝓤 H A sof.signature (κ, tt) (q, tt) (s, (p, (k, (n, tt)))) at) (WpFn 𝓤 H C Λ code.function (v ∷ vint w64 p ∷ vint w64 k ∷ vint w64 n ∷ []) Post)
+  module _ (C : Calls 𝓤 H) (Λ : Loops 𝓤 H) (fm : FmC 𝓤 H (W .laws) C) (known-new : Triple 𝓤 (C #tables·open-at) (New 𝓤 H A mem run))
+      (known-next : Triple 𝓤 (C #tables·take) (Next 𝓤 H A mem run)) where
+    walk : Is (ShrSlice (named 0) κ u8) s (v ∷ [])
+        → ent 𝓤 (onEntry 𝓤 H A sof.signature (κ, tt) (q, tt) (s, (p, (k, (n, tt)))) at)
+        (WpFn 𝓤 H C Λ code.function (v ∷ vint w64 p ∷ vint w64 k ∷ vint w64 n ∷ []) Post)
     walk is₀ =
-        qed W (raw (onEntry 𝓤 H A sof.signature (κ, tt) (q, tt) (s, (p, (k, (n, tt)))) at) ∷ []) ∵ enter ! C Λ code.function (v ∷ vint w64 p ∷ vint w64 k ∷ vint w64 n ∷ []) _ $
-        alloc1 ! (λ l₀. alloc1 ! (λ l₁. alloc1 ! (λ l₂. alloc1 ! (λ l₃. alloc1 ! (λ l₄. alloc1 ! (λ l₅. alloc0 ! $ params1 ! $ pass1 ! (init ! 8 refl (shr-slice-lawful 𝓤 H A W (named 0) κ u8 .typed s (v ∷ []) is₀ .0)) $ pass1 ! (init ! 6 refl (tt, record { fits = okp })) $ pass1 ! (init ! 4 refl (tt, record { fits = okk })) $ pass1 ! (init ! 2 refl (tt, record { fits = okn })) $ pass0 ! $
+        qed W (raw (onEntry 𝓤 H A sof.signature (κ, tt) (q, tt) (s, (p, (k, (n, tt)))) at) ∷ []) ∵
+        enter ! C Λ code.function (v ∷ vint w64 p ∷ vint w64 k ∷ vint w64 n ∷ []) _ $
+        alloc1 ! (λ l₀. alloc1 ! (λ l₁. alloc1 ! (λ l₂. alloc1 ! (λ l₃. alloc1 ! (λ l₄. alloc1 ! (λ l₅. alloc0 ! $ params1 ! $
+        pass1 ! (init ! 8 refl (shr-slice-lawful 𝓤 H A W (named 0) κ u8 .typed s (v ∷ []) is₀ .0)) $ pass1 ! (init ! 6 refl (tt, record { fits = okp })) $
+        pass1 ! (init ! 4 refl (tt, record { fits = okk })) $ pass1 ! (init ! 2 refl (tt, record { fits = okn })) $ pass0 ! $
         move ! (12 ∷ []) $ use1 W (raw (New 𝓤 H A mem run .pre to-new) ⊛ ‵ Own) goes-new $ split ! $
-        calls-at ! fm (New 𝓤 H A mem run) known-new to-new (and-then ! (load ! (from ! (stop !)) (look ! 10 refl)) (and-then ! (load ! (from ! (stop !)) (look ! 8 refl)) (no-more !))) (λ u.
-        use1 W (later (some (λ (r : Reader). ((‵ (flft κ q) ⊛ ‵ ftrue) ⊛ ‵ (B (κ, tt) .own r (u ∷ []))) ⊛ raw (ensured 𝓤 H A new.ended (new.clauses 𝓤 H A mem run) (κ, tt) (s, (p, tt)) tt r)))) (id⊢ 𝓤 _) $ await ! tt $ pick ! (λ r.
-        split ! $ move ! (1 ∷ []) $ use1 W (raw (fact 𝓤 ((r .file ≡ s) × (r .at ≡ p)))) (new-said r) $ heard ! ((r .file ≡ s) × (r .at ≡ p)) (λ e. split ! $ move ! (1 ∷ []) $
+        calls-at ! fm (New 𝓤 H A mem run) known-new to-new
+        (and-then ! (load ! (from ! (stop !)) (look ! 10 refl)) (and-then ! (load ! (from ! (stop !)) (look ! 8 refl)) (no-more !))) (λ u.
+        use1 W (later (some (λ (r : Reader). ((‵ (flft κ q) ⊛ ‵ ftrue) ⊛ ‵ (B (κ, tt) .own r (u ∷ []))) ⊛ raw (NewTold r)))) (id⊢ 𝓤 _) $ await ! tt $
+        pick ! (λ r.
+        split ! $ move ! (1 ∷ []) $ use1 W (raw (fact 𝓤 (At r))) (new-said r) $ heard ! (At r) (λ e. split ! $ move ! (1 ∷ []) $
         -- [what the struct owns; the token; what s owns; room for _2; …; _1; …; room for _0; …]
         peeks ! (B (κ, tt)) (Is (B (κ, tt))) (shows 𝓤 H A (B (κ, tt))) r (u ∷ []) (λ is.
         land ! (from ! (stop !)) (init ! 3 refl (LL.lawful (T.the-type αᵉ) (T′.the-laws αᵉ) 𝓤 H A W .typed r _ is .0)) $
         use2 W (raw (Next 𝓤 H A mem run .pre (to-next r u))) (goes-next r u) $
-        calls-at ! fm (Next 𝓤 H A mem run) known-next (to-next r u) (and-then ! (load ! (from ! (stop !)) (look ! 2 refl)) (and-then ! (load ! (from ! (stop !)) (look ! 6 refl)) (and-then ! (load ! (from ! (stop !)) (look ! 4 refl)) (no-more !)))) (λ u′.
-        use1 W (later (some (λ (t : Step). ((‵ (flft κ q) ⊛ ‵ ftrue) ⊛ ‵ (S.the-row .own t (u′ ∷ []))) ⊛ raw (ensured 𝓤 H A next.ended (next.clauses 𝓤 H A mem run) (κ, tt) (r, (k, (n, tt))) tt t)))) (id⊢ 𝓤 _) $ await ! tt $ pick ! (λ t.
-        split ! $ move ! (1 ∷ []) $ use1 W (raw (fact 𝓤 (said t ≡ sectionStep (sectionNumber k n) (now (r .file)) (r .at)))) (next-said r t) $ heard ! (said t ≡ sectionStep (sectionNumber k n) (now (r .file)) (r .at)) (λ e′. split ! $ move ! (1 ∷ []) $
+        calls-at ! fm (Next 𝓤 H A mem run) known-next (to-next r u)
+        (and-then ! (load ! (from ! (stop !)) (look ! 2 refl))
+        (and-then ! (load ! (from ! (stop !)) (look ! 6 refl))
+        (and-then ! (load ! (from ! (stop !)) (look ! 4 refl)) (no-more !)))) (λ u′.
+        use1 W (later (some (λ (t : Step). ((‵ (flft κ q) ⊛ ‵ ftrue) ⊛ ‵ (S.the-row .own t (u′ ∷ []))) ⊛ raw (NextTold r t)))) (id⊢ 𝓤 _) $ await ! tt $
+        pick ! (λ t.
+        split ! $ move ! (1 ∷ []) $ use1 W (raw (fact 𝓤 (Taken-as r t))) (next-said r t) $ heard ! (Taken-as r t) (λ e′. split ! $ move ! (1 ∷ []) $
         -- [the result; the token; what s owns; _2; …; _1; …; room for _0; …]
         peeks ! S.the-row (Is S.the-row) (shows 𝓤 H A S.the-row) t (u′ ∷ []) (λ is′.
         land ! (from ! (stop !)) (init ! 13 refl (EL.lawful S.the-type S′.the-laws 𝓤 H A W tt .typed t _ is′ .0)) $
         returns ! (look ! 13 refl) $ forget ! 3 refl $ forget ! 5 refl $ forget ! 7 refl $ forget ! 9 refl $ forget ! 11 refl $ forget ! 13 refl $
-        move ! (13 ∷ 14 ∷ []) $ free1 ! $ move ! (11 ∷ 12 ∷ []) $ free1 ! $ move ! (9 ∷ 10 ∷ []) $ free1 ! $ move ! (7 ∷ 8 ∷ []) $ free1 ! $ move ! (5 ∷ 6 ∷ []) $ free1 ! $ move ! (3 ∷ 4 ∷ []) $ free1 ! $ free0 ! $
-        by ! (exits t u′ (e′ ∙ (ap (λ (x : RefT (List ℕ)). sectionStep (sectionNumber k n) (now x) (r .at)) (e .0) ∙ ap (λ (y : ℕ). sectionStep (sectionNumber k n) (now s) y) (e .1))))))))))))))))))
+        move ! (13 ∷ 14 ∷ []) $ free1 ! $ move ! (11 ∷ 12 ∷ []) $ free1 ! $ move ! (9 ∷ 10 ∷ []) $ free1 ! $ move ! (7 ∷ 8 ∷ []) $ free1 ! $
+        move ! (5 ∷ 6 ∷ []) $ free1 ! $ move ! (3 ∷ 4 ∷ []) $ free1 ! $ free0 ! $
+        by ! (exits t u′
+        (e′ ∙ (ap (λ (x : RefT (List ℕ)). sectionStep (sectionNumber k n) (now x) (r .at)) (e .0)
+        ∙ ap (λ (y : ℕ). sectionStep (sectionNumber k n) (now s) y) (e .1))))))))))))))))))
 
 module _ {M : Type 1} (𝓤 : URA M) (H : Heap 𝓤) (A : Atoms 𝓤) (W : Given 𝓤 H A) (mem : Memory → SProp 𝓤) (run : Routine → Fun 𝓤) where
-  sof-walks : (C : Calls 𝓤 H) (Λ : Loops 𝓤 H) → FmC 𝓤 H (W .laws) C → Triple 𝓤 (C #tables·open-at) (New 𝓤 H A mem run) → Triple 𝓤 (C #tables·take) (Next 𝓤 H A mem run)
+  sof-walks : (C : Calls 𝓤 H) (Λ : Loops 𝓤 H) → FmC 𝓤 H (W .laws) C → Triple 𝓤 (C #tables·open-at) (New 𝓤 H A mem run)
+      → Triple 𝓤 (C #tables·take) (Next 𝓤 H A mem run)
       → Walks 𝓤 H A sof.ended stayed (WpFn 𝓤 H C Λ code.function) (sof.clauses 𝓤 H A mem run)
-  sof-walks C Λ fm known-new known-next = walked 𝓤 H A sof.ended stayed (sof.clauses 𝓤 H A mem run) (WpFn 𝓤 H C Λ code.function) (λ κs. (slice-vals, (uint-vals w64, (uint-vals w64, (uint-vals w64, tt))))) (λ κs. (shr-slice-tells (named 0) (κs .0) u8, (uint-tells w64, (uint-tells w64, (uint-tells w64, tt)))))
-      (λ κs qs bounds a g are. via 𝓤 _ (fst∗ 𝓤 _ (emp 𝓤)) (walk 𝓤 H A W mem run (κs .0) (qs .0) (a .0) (a .1 .0) (a .1 .1 .0) (a .1 .1 .1 .0) (are .1 .0 .1) (are .1 .1 .0 .1) (are .1 .1 .1 .0 .1) C Λ fm known-new known-next (are .0)))
+  sof-walks C Λ fm known-new known-next =
+      walked 𝓤 H A sof.ended stayed (sof.clauses 𝓤 H A mem run) (WpFn 𝓤 H C Λ code.function)
+      (λ κs. (slice-vals, (uint-vals w64, (uint-vals w64, (uint-vals w64, tt)))))
+      (λ κs. (shr-slice-tells (named 0) (κs .0) u8, (uint-tells w64, (uint-tells w64, (uint-tells w64, tt)))))
+      (λ κs qs bounds a g are. via 𝓤 _ (fst∗ 𝓤 _ (emp 𝓤))
+      (walk 𝓤 H A W mem run (κs .0) (qs .0) (a .0) (a .1 .0) (a .1 .1 .0) (a .1 .1 .1 .0) (are .1 .0 .1) (are .1 .1 .0 .1) (are .1 .1 .1 .0 .1)
+      C Λ fm known-new known-next (are .0)))
 
 sof-meets : {M : Type 1} (𝓤 : URA M) (H : Heap 𝓤) (A : Atoms 𝓤) (W : Given 𝓤 H A) (mem : Memory → SProp 𝓤) (run : Routine → Fun 𝓤) (𝓣 : Tables 𝓤 H)
     → Triple 𝓤 (𝓣 .C #tables·open-at) (New 𝓤 H A mem run) → Triple 𝓤 (𝓣 .C #tables·take) (Next 𝓤 H A mem run)
     → Meets 𝓤 H A sof.signature (WpFn 𝓤 H (𝓣 .C) (𝓣 .Λ) code.function) (sof.spec 𝓤 H A mem run)
-sof-meets 𝓤 H A W mem run 𝓣 known-new known-next = walk-meets 𝓤 H A sof.ended stayed W (goes-none-slice 𝓤 H A W 1 (0 ∷ []) tt (plain (λ _. u8)) yes, (goes-none 𝓤 H A W 1 (λ _. usize) yes (λ κs x f. refl), (goes-none 𝓤 H A W 1 (λ _. usize) yes (λ κs x f. refl), (goes-none 𝓤 H A W 1 (λ _. usize) yes (λ κs x f. refl), tt)))) (sof.clauses 𝓤 H A mem run) (WpFn 𝓤 H (𝓣 .C) (𝓣 .Λ) code.function) (WpFn-mono 𝓤 H (W .laws) 𝓣 code.function)
+sof-meets 𝓤 H A W mem run 𝓣 known-new known-next =
+    walk-meets 𝓤 H A sof.ended stayed W (
+      goes-none-slice 𝓤 H A W 1 (0 ∷ []) tt (plain (λ _. u8)) yes,
+      (
+        goes-none 𝓤 H A W 1 (λ _. usize) yes (λ κs x f. refl),
+        (
+          goes-none 𝓤 H A W 1 (λ _. usize) yes (λ κs x f. refl),
+          (goes-none 𝓤 H A W 1 (λ _. usize) yes (λ κs x f. refl), tt),
+        ),
+      ),
+    )
+    (sof.clauses 𝓤 H A mem run) (WpFn 𝓤 H (𝓣 .C) (𝓣 .Λ) code.function) (WpFn-mono 𝓤 H (W .laws) 𝓣 code.function)
     (sof-walks 𝓤 H A W mem run (𝓣 .C) (𝓣 .Λ) (fmOf 𝓤 H (W .laws) 𝓣) known-new known-next)
 
 pub section-of-spec : {M : Type 1} → stated.statement M

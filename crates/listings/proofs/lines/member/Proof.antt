@@ -1,16 +1,14 @@
--- `member` meets its contract.
+-- `member` meets its contract: the first member has no space before it.
 use borrow.Author.Needs.{needs}
+use Rattle.listings.proofs.Text.{first-put, other-put}
 use Rattle.listings.proofs.lines.member.Statement.{statement}
 use Rattle.listings.proofs.lines.member.Tie as tie
-use Rattle.listings.specs.Text.{gap}
 
 returns : tie.Need-returns
-unfolding gap
-returns c = rw (c .before .before .before .before .if1 .taken) (c .before .before .digits .ensures)
+returns c = search (first-put, needs)
 
 returns-2 : tie.Need-returns-2
-unfolding gap
-returns-2 c = rw (c .before .before .before .before .before .if1 .left) (c .before .before .number .ensures)
+returns-2 c = search (other-put, needs)
 
 pub member-spec : {M : Type 1} → statement M
 member-spec =

@@ -1,13 +1,10 @@
 -- `members` meets its contract. The invariant: the members below s are put.
 use borrow.Author.Needs.{needs}
+use Prim.Native.Nat.{_-_}
+use mathlib.Core.Logic.{⊎-elim}
+use Rattle.listings.proofs.Members.{Below, below-none, below-in, below-out, below-length, below-all}
 use Rattle.listings.proofs.lines.members.Statement.{statement}
 use Rattle.listings.proofs.lines.members.Tie as tie
-use Prim.Native.Nat.{_-_}
-use native.Mathlib.Omega.{arith}
-use mathlib.Core.Path.{_≡_, sym, _∙_}
-use mathlib.Core.Logic.{⊎-elim}
-use Rattle.listings.proofs.Puts.{puts-length}
-use Rattle.listings.proofs.Members.{Below, below-none, below-in, below-out}
 
 abbrev Inv-loop : tie.InvT-loop
 Inv-loop out₀ at x next₀ first₀ s₀ out next first s = Below (x .words) out₀ at s out next first
@@ -16,23 +13,21 @@ abbrev μ-loop : tie.MeasureT-loop
 μ-loop out₀ at x next₀ first₀ s₀ out next first s = 256 - s
 
 loop-holds : tie.Need-loop-holds Inv-loop μ-loop
-loop-holds c = below-none _ _ _ (omega arith)
+loop-holds c = search (below-none, needs)
 
+-- state s is a member, or it is none
 loop-again : tie.Need-loop-again Inv-loop μ-loop
 loop-again c =
-    let t = c .before .before in
-    let l = t .before in
-    let is = sym (c .before .member .ensures) in
     ⊎-elim
-    (λ w. rw (w .5, w .6, w .7) (below-in _ _ _ (t .loop-test .taken) (l .loop .inv) (l .before .before .good .0 .0) (is ∙ w .0 .taken) (w .2 .ensures)))
-    (λ w. rw (w .1, w .2, w .3) (below-out _ _ _ (t .loop-test .taken) (l .loop .inv) (is ∙ w .0 .left)))
+    (λ w. rw (w .5, w .6, w .7) (search (below-in, needs)))
+    (λ w. rw (w .1, w .2, w .3) (search (below-out, needs)))
     (c .if1 .came)
 
 same-length : tie.Need-same-length Inv-loop μ-loop
-same-length c = puts-length (c .before .loop .inv .puts)
+same-length c = search (below-length, needs)
 
 returns : tie.Need-returns Inv-loop μ-loop
-returns c = let e : c .before .loop .s ≡ 256 = omega arith in rw e at (c .before .loop .inv .puts)
+returns c = search (below-all, needs)
 
 pub members-spec : {M : Type 1} → statement M
 members-spec =

@@ -1,14 +1,14 @@
--- `members_line` meets its contract.
+-- `members_line` meets its contract: the newline is put after the members.
 use borrow.Author.Needs.{needs}
-use Rattle.listings.proofs.lines.members_line.Statement.{statement}
-use Rattle.listings.proofs.lines.members_line.Tie as tie
 use Rattle.listings.specs.Text.{line}
 use Rattle.listings.specs.Listing.{membersLine}
 use Rattle.listings.proofs.Puts.{puts-then}
+use Rattle.listings.proofs.lines.members_line.Statement.{statement}
+use Rattle.listings.proofs.lines.members_line.Tie as tie
 
 returns : tie.Need-returns
 unfolding membersLine line
-returns c = puts-then (c .before .before .before .before .before .before .before .before .before .good .0 .0) (c .before .before .before .before .before .before .members .ensures) (c .before .before .byte .ensures)
+returns c = search (puts-then, needs)
 
 pub members-line-spec : {M : Type 1} → statement M
 members-line-spec =

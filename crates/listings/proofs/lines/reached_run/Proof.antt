@@ -1,17 +1,13 @@
 -- `reached_run` meets its contract: the lines are put one after another.
 use borrow.Author.Needs.{needs}
-use Rattle.listings.proofs.lines.reached_run.Statement.{statement}
-use Rattle.listings.proofs.lines.reached_run.Tie as tie
 use Rattle.listings.specs.Listing.{reachedListing}
 use Rattle.listings.proofs.Puts.{puts-then}
+use Rattle.listings.proofs.lines.reached_run.Statement.{statement}
+use Rattle.listings.proofs.lines.reached_run.Tie as tie
 
 returns : tie.Need-returns
 unfolding reachedListing
-returns c =
-    let second = c .before .before .before .before .before .before in
-    let model = second .before .before .before .before in
-    let fits = model .before .before .before .before .before .good .0 .0 in
-    puts-then fits (puts-then fits (model .model-line .ensures) (second .reached-line .ensures)) (c .before .before .state-lines .ensures)
+returns c = search (puts-then, needs)
 
 pub reached-run-spec : {M : Type 1} → statement M
 reached-run-spec =

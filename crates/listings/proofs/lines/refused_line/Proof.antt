@@ -3,11 +3,11 @@ use borrow.Author.Needs.{needs}
 use Rattle.listings.proofs.lines.refused_line.Statement.{statement}
 use Rattle.listings.proofs.lines.refused_line.Tie as tie
 use Rattle.listings.proofs.Puts.{puts-then}
-use Rattle.listings.specs.Text.{each, text, spaced, parted, line}
+use Rattle.listings.specs.Text.{appended, text, spaced, parted, line}
 use Rattle.listings.specs.Listing.{refusedListing}
 
 returns : tie.Need-returns
-unfolding refusedListing each text spaced parted line
+unfolding refusedListing appended text spaced parted line
 returns c =
     let end = c .before .before in
     let offset = end .before .before .before .before .before in

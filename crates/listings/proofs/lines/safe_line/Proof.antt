@@ -3,11 +3,11 @@ use borrow.Author.Needs.{needs}
 use Rattle.listings.proofs.lines.safe_line.Statement.{statement}
 use Rattle.listings.proofs.lines.safe_line.Tie as tie
 use Rattle.listings.proofs.Puts.{puts-then}
-use Rattle.listings.specs.Text.{each, text, spaced, parted, line}
+use Rattle.listings.specs.Text.{appended, text, spaced, parted, line}
 use Rattle.listings.specs.Listing.{safeLine}
 
 returns : tie.Need-returns
-unfolding safeLine each text spaced parted line
+unfolding safeLine appended text spaced parted line
 returns c =
     let end = c .before .before in
     let counted = end .before .before .before .before .before in

@@ -4,12 +4,12 @@ use Rattle.listings.proofs.lines.state_line.Statement.{statement}
 use Rattle.listings.proofs.lines.state_line.Tie as tie
 use mir.Syntax.{w16}
 use mir.ValLaws.{toZ-ofZ}
-use Rattle.listings.specs.Text.{each, text, spaced, parted, line}
+use Rattle.listings.specs.Text.{appended, text, spaced, parted, line}
 use Rattle.listings.specs.Listing.{stateLine}
 use Rattle.listings.proofs.Puts.{puts-then, puts-length}
 
 returns : tie.Need-returns
-unfolding stateLine each text spaced parted line
+unfolding stateLine appended text spaced parted line
 returns c =
     let end = c .before .before in
     let turn = end .before .before .before .before .before in

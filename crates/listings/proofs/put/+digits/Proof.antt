@@ -1,11 +1,10 @@
--- `digits` meets its contract: it puts the digits of n / 10, and then the last digit. The measure is n.
+-- `digits` meets its contract: it puts the digits of its tenth, and then the last digit. The measure is the number.
 use Prim.Native.Nat.{ℕ, _<_}
 use native.Mathlib.Omega.{arith}
 use borrow.Author.Needs.{needs}
 use borrow.Fn.Kinds.{In}
 use borrow.Fn.PlainCycle.{Measures, is, falls, and}
-use Rattle.listings.proofs.Puts.{puts-then, puts-length}
-use Rattle.listings.proofs.Text.{decimal-one, decimal-more}
+use Rattle.listings.proofs.Text.{digit-puts, digits-puts}
 use Rattle.listings.proofs.put.digits.Reads as digits
 use Rattle.listings.proofs.put.digits.Kinds as digits-kinds
 use Rattle.listings.proofs.put.+digits.Lts-digits as digits-lts
@@ -33,14 +32,11 @@ pub +digits-spec : {M : Type 1} → statement M
     (λ c. search needs)
     (λ c. search needs)
     (λ c κs. search needs)
-    (λ c. puts-length (c .before .before .byte .ensures))
-    (λ c. let one = c .before .before .before .before in rw (decimal-one (one .before .before .args .n) (one .if1 .taken)) (c .before .before .byte .ensures))
+    (λ c. search needs)
+    (λ c. search (digit-puts, needs))
     (λ c κs. (omega arith, tt))
     (λ c. search needs)
     (λ c. search needs)
     (λ c κs. search needs)
-    (λ c. let high = c .before .before .before .before .before .before in puts-length (puts-then (omega arith) (high .digits .ensures) (c .before .before .byte2 .ensures)))
-    (λ c.
-    let high = c .before .before .before .before .before .before in
-    let more = high .before .before in
-    rw (decimal-more (more .before .before .args .n) (more .if1 .left)) (puts-then (omega arith) (high .digits .ensures) (c .before .before .byte2 .ensures))))
+    (λ c. search needs)
+    (λ c. search (digits-puts, needs)))

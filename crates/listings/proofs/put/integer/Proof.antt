@@ -11,7 +11,8 @@ returns : tie.Need-returns
 returns c =
     let before = c .before .before .before .before .before .before in
     let start = before .before .before .before .before in
-    puts-then (omega arith) (before .text .ensures) (rw (toZ-ofZ w16 (start .args .z) (start .fits .z)) at (c .before .before .sign-and-digits .ensures))
+    let z = toZ-ofZ w16 (start .args .z) (start .fits .z) in
+    puts-then (omega arith) (before .text .ensures) (rw z at (c .before .before .sign-and-digits .ensures))
 
 pub integer-spec : {M : Type 1} → statement M
 integer-spec =

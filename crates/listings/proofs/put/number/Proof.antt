@@ -1,12 +1,11 @@
--- `number` meets its contract.
+-- `number` meets its contract: the digits are put after the text.
 use borrow.Author.Needs.{needs}
+use Rattle.listings.proofs.Puts.{puts-then}
 use Rattle.listings.proofs.put.number.Statement.{statement}
 use Rattle.listings.proofs.put.number.Tie as tie
-use native.Mathlib.Omega.{arith}
-use Rattle.listings.proofs.Puts.{puts-then}
 
 returns : tie.Need-returns
-returns c = puts-then (omega arith) (c .before .before .before .before .before .before .text .ensures) (c .before .before .digits .ensures)
+returns c = search (puts-then, needs)
 
 pub number-spec : {M : Type 1} → statement M
 number-spec =

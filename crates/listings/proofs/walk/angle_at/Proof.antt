@@ -15,7 +15,9 @@ returns c = rw (← (c .before .before .state-at .ensures)) (toZ-ofZ w16 _ (sear
 
 returns-2 : tie.Need-returns-2
 unfolding angleAt
-returns-2 c = rw (← (c .before .state-at .ensures)) (sym (List·getD-eq-default (c .before .before .before .args .angles .now) (pos 0) (c .if1 .left)))
+returns-2 c =
+    let angles = c .before .before .before .args .angles .now in
+    rw (← (c .before .state-at .ensures)) (sym (List·getD-eq-default angles (pos 0) (c .if1 .left)))
 
 pub angle-at-spec : {M : Type 1} → statement M
 angle-at-spec =

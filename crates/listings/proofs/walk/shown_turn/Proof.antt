@@ -1,4 +1,4 @@
--- `shown_turn` meets its contract.
+-- `shown_turn` meets its contract: case by case, and what the machine reads from the bits of a turn is the turn.
 use borrow.Author.Needs.{needs}
 use Rattle.listings.proofs.walk.shown_turn.Statement.{statement}
 use Rattle.listings.proofs.walk.shown_turn.Tie as tie

@@ -1,10 +1,10 @@
--- `state_at` meets its contract.
+-- `state_at` meets its contract: past the walk's end there is 0.
 use borrow.Author.Needs.{needs}
+use mathlib.Core.Path.{refl, sym}
+use lib.ListN.{List·getD-eq-default}
+use Rattle.listings.specs.Listing.{stateAt}
 use Rattle.listings.proofs.walk.state_at.Statement.{statement}
 use Rattle.listings.proofs.walk.state_at.Tie as tie
-use lib.ListN.{List·getD-eq-default}
-use mathlib.Core.Path.{refl, sym}
-use Rattle.listings.specs.Listing.{stateAt}
 
 returns : tie.Need-returns
 unfolding stateAt

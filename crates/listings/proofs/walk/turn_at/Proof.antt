@@ -15,7 +15,8 @@ use Rattle.listings.proofs.walk.turn_at.Tie as tie
 
 -- the turn into a state that is not the first
 turn-more :
-    (walk : List ℕ) (angles : List ℤ) (i : ℕ) → (i ≡ 0 → ⊥) → turnAt walk angles i ≡ shown (turnOf (angleAt walk angles (i - 1)) (angleAt walk angles i))
+    (walk : List ℕ) (angles : List ℤ) (i : ℕ) → (i ≡ 0 → ⊥)
+    → turnAt walk angles i ≡ shown (turnOf (angleAt walk angles (i - 1)) (angleAt walk angles i))
 unfolding turnAt
 turn-more walk angles zero h = absurd (h refl)
 turn-more walk angles (suc i) h = let e : suc i - 1 ≡ i = omega arith in rw e

@@ -4,7 +4,7 @@ use Prim.Native.Nat.{_-_, _≤_}
 use native.Mathlib.Omega.{arith}
 use Rattle.moves.specs.Models.{on}
 use Rattle.rules.specs.Buffer.{decode}
-use Rattle.rules.specs.Runs.{run, Outcome}
+use Rattle.rules.specs.Runs.{run, Ran}
 use Rattle.rules.specs.Table.{Table}
 use Rattle.runs.proofs.Runs.{Going, Turning, going, end-spent, end-concluded, turning, never-full, goes-on}
 use Rattle.runs.proofs.Steps.{step-few}
@@ -26,7 +26,7 @@ start c = c .before .before .before .before .before
 abbrev t : tie.At-loop Inv-loop μ-loop → Table
 t c = on (start c .args .model) (start c .args .moves .now)
 
-abbrev whole : tie.At-loop Inv-loop μ-loop → Outcome
+abbrev whole : tie.At-loop Inv-loop μ-loop → Ran
 whole c = run (t c) (start c .args .budget) (hintsAt (start c .args .hints .now) 0) (decode (start c .args .buf .now))
 
 -- the run is open: a rule is fired in this turn

@@ -1,3 +1,4 @@
+-- `count` meets its contract: the ones of the four words, at most 64 each.
 use borrow.Author.Needs.{needs}
 use Rattle.sets.proofs.StateSet.count.Statement.{statement}
 use Rattle.sets.proofs.StateSet.count.Tie as tie

@@ -1,10 +1,17 @@
+-- `join` meets its contract: word by word, `|` goes bit by bit, so the words are those of the set.
 use borrow.Author.Needs.{needs}
+use Rattle.sets.proofs.Words.{proper-words, join-words}
 use Rattle.sets.proofs.StateSet.join.Statement.{statement}
 use Rattle.sets.proofs.StateSet.join.Tie as tie
-use Rattle.sets.proofs.Words.{proper-words, join-words}
+
+abbrev start : tie.After-t31 → tie.Start
+start c = c .before .before .before .before .before .before .before .before
 
 returns : tie.Need-returns
-returns c = join-words (c .before .before .before .before .before .before .before .before .args .t1 .words) (c .before .before .before .before .before .before .before .before .args .t2 .words) (proper-words _ (search needs) (λ j. search needs)) (proper-words _ (search needs) (λ j. search needs))
+returns c =
+    join-words (start c .args .t1 .words) (start c .args .t2 .words)
+    (proper-words _ (search needs) (λ j. search needs))
+    (proper-words _ (search needs) (λ j. search needs))
 
 pub join-spec : {M : Type 1} → statement M
 join-spec =

@@ -1,3 +1,4 @@
+-- `member` meets its contract: the bit of s in its word; no number from 256 up is a member.
 use borrow.Author.Needs.{needs}
 use Rattle.sets.proofs.StateSet.member.Statement.{statement}
 use Rattle.sets.proofs.StateSet.member.Tie as tie

@@ -1,3 +1,4 @@
+-- `read` meets its contract: four words in one go where they are all there, else word by word, 0 past the end.
 use borrow.Author.Needs.{needs}
 use Rattle.sets.proofs.StateSet.read.Statement.{statement}
 use Rattle.sets.proofs.StateSet.read.Tie as tie

@@ -1,22 +1,23 @@
+-- `smallest` meets its contract: word by word, the lowest bit of the first word that has one.
 use borrow.Author.Needs.{needs}
+use Rattle.sets.proofs.Words.{smallest-0, smallest-1, smallest-2, smallest-3, smallest-nothing}
 use Rattle.sets.proofs.StateSet.smallest.Statement.{statement}
 use Rattle.sets.proofs.StateSet.smallest.Tie as tie
-use Rattle.sets.proofs.Words.{smallest-0, smallest-1, smallest-2, smallest-3, smallest-nothing}
 
 returns : tie.Need-returns
-returns c = smallest-0 (c .before .before .before .args .t1 .words) _ (c .before .first .ensures) (c .if1 .taken)
+returns c = search (smallest-0, needs)
 
 returns-2 : tie.Need-returns-2
-returns-2 c = smallest-1 (c .before .before .before .before .before .before .args .t1 .words) _ (c .before .before .before .before .first .ensures) (c .before .before .before .if1 .left) _ (c .before .first2 .ensures) (c .if2 .taken)
+returns-2 c = search (smallest-1, needs)
 
 returns-3 : tie.Need-returns-3
-returns-3 c = smallest-2 (c .before .before .before .before .before .before .before .before .before .args .t1 .words) _ (c .before .before .before .before .before .before .before .first .ensures) (c .before .before .before .before .before .before .if1 .left) _ (c .before .before .before .before .first2 .ensures) (c .before .before .before .if2 .left) _ (c .before .first3 .ensures) (c .if3 .taken)
+returns-3 c = search (smallest-2, needs)
 
 returns-4 : tie.Need-returns-4
-returns-4 c = smallest-3 (c .before .before .before .before .before .before .before .before .before .before .before .before .args .t1 .words) _ (c .before .before .before .before .before .before .before .before .before .before .first .ensures) (c .before .before .before .before .before .before .before .before .before .if1 .left) _ (c .before .before .before .before .before .before .before .first2 .ensures) (c .before .before .before .before .before .before .if2 .left) _ (c .before .before .before .before .first3 .ensures) (c .before .before .before .if3 .left) _ (c .before .first4 .ensures) (c .if4 .taken)
+returns-4 c = search (smallest-3, needs)
 
 returns-5 : tie.Need-returns-5
-returns-5 c = smallest-nothing (c .before .before .before .before .before .before .before .before .before .before .before .before .args .t1 .words) _ (c .before .before .before .before .before .before .before .before .before .before .first .ensures) (c .before .before .before .before .before .before .before .before .before .if1 .left) _ (c .before .before .before .before .before .before .before .first2 .ensures) (c .before .before .before .before .before .before .if2 .left) _ (c .before .before .before .before .first3 .ensures) (c .before .before .before .if3 .left) _ (c .before .first4 .ensures) (c .if4 .left)
+returns-5 c = search (smallest-nothing, needs)
 
 pub smallest-spec : {M : Type 1} → statement M
 smallest-spec =

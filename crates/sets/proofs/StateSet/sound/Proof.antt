@@ -1,3 +1,4 @@
+-- `sound` meets its contract: no member from N up is to be within the full set of N states; from 256 up nothing is asked.
 use borrow.Author.Needs.{needs}
 use Rattle.sets.proofs.StateSet.sound.Statement.{statement}
 use Rattle.sets.proofs.StateSet.sound.Tie as tie

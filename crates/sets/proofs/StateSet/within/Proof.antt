@@ -1,8 +1,7 @@
+-- `within` meets its contract: nothing is left of the set without the other.
 use borrow.Author.Needs.{needs}
 use Rattle.sets.proofs.StateSet.within.Statement.{statement}
 use Rattle.sets.proofs.StateSet.within.Tie as tie
-use Rattle.sets.proofs.StateSet.within.Lts as lts
-use Rattle.sets.proofs.StateSet.within.Reads as reads
 use Rattle.sets.proofs.Words.{within-minus}
 
 returns : tie.Need-returns

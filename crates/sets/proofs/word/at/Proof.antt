@@ -1,3 +1,4 @@
+-- `at` meets its contract: the word at the place, 0 past the end.
 use borrow.Author.Needs.{needs}
 use Rattle.sets.proofs.word.at.Statement.{statement}
 use Rattle.sets.proofs.word.at.Tie as tie

@@ -1,3 +1,4 @@
+-- `first` meets its contract: the trailing zeros of a word are at most 64.
 use borrow.Author.Needs.{needs}
 use Rattle.sets.proofs.word.first.Statement.{statement}
 use Rattle.sets.proofs.word.first.Tie as tie

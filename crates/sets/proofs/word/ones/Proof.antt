@@ -1,3 +1,4 @@
+-- `ones` meets its contract: 2 to the number of states that fall into the word, less 1.
 use borrow.Author.Needs.{needs}
 use Rattle.sets.proofs.word.ones.Statement.{statement}
 use Rattle.sets.proofs.word.ones.Tie as tie
@@ -9,10 +10,10 @@ use lib.Pow.{pow-pos}
 use Rattle.sets.proofs.Words.{one-shl}
 
 returns : tie.Need-returns
-returns c = let e : min (c .before .args .n - c .before .args .from) 64 ≡ 0 = omega arith in rw e
+returns c = let e : min (c .before .args .size - c .before .args .from) 64 ≡ 0 = omega arith in rw e
 
 sub-result : tie.Need-sub-result
-sub-result c = rw (one-shl _ (c .if2 .taken)) (pow-pos (c .before .before .args .n - c .before .before .args .from))
+sub-result c = rw (one-shl _ (c .if2 .taken)) (pow-pos (c .before .before .args .size - c .before .before .args .from))
 
 returns-2 : tie.Need-returns-2
 returns-2 c = rw (one-shl _ (c .if2 .taken), min-eq-left (le-of-lt (c .if2 .taken)))

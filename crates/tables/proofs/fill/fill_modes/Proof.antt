@@ -1,37 +1,34 @@
 -- `fill::fill_modes` meets its contract: the places so far are filled.
 use borrow.Author.Needs.{needs}
-use mathlib.Core.Path.{ap}
-use native.Mathlib.Omega.{arith}
-use Prim.Native.Nat.{ℕ, _-_, _%_, _≤_}
-use lib.ListN.{getD}
+use Prim.Native.Nat.{_-_}
 use Rattle.tables.specs.Format.{state}
-use Rattle.tables.specs.Control.{modesListed}
-use Rattle.tables.specs.Steps.{values}
-use Rattle.tables.proofs.Lists.{Filled, fill-none, fill-more, fill-all}
+use Rattle.tables.specs.Inner.{values}
+use Rattle.tables.specs.Control.{modesOfEntries}
+use Rattle.tables.proofs.Filling.{FilledTo, modeOf, fill-begins, fill-place, mode-goes, fill-same, fill-ends}
 use Rattle.tables.proofs.fill.fill_modes.Statement.{statement}
 use Rattle.tables.proofs.fill.fill_modes.Tie as tie
 
 abbrev Inv-loop : tie.InvT-loop
-Inv-loop file n modes₀ i₀ modes i = (i ≤ 256) × Filled 0 (λ (s : ℕ). getD (values state file 2 n) s 0 % 256) modes₀ modes i
+Inv-loop file size modes₀ i₀ modes i = FilledTo 0 (modeOf (values state file 2 size)) modes₀ modes 256 i
 
 abbrev μ-loop : tie.MeasureT-loop
-μ-loop file n modes₀ i₀ modes i = 256 - i
+μ-loop file size modes₀ i₀ modes i = 256 - i
 
 loop-holds : tie.Need-loop-holds Inv-loop μ-loop
-loop-holds c = (search needs, fill-none 0 _ _)
+loop-holds c = search (fill-begins, needs)
 
 slice-write-modes : tie.Need-slice-write-modes Inv-loop μ-loop
-slice-write-modes c = let e = c .before .before .loop .inv .1 .same in omega arith
+slice-write-modes c = search (fill-place, needs)
 
 loop-again : tie.Need-loop-again Inv-loop μ-loop
-loop-again c = (search needs, fill-more 0 _ _ _ _ _ (c .before .before .loop .inv .1) (omega arith) (ap (λ (v : ℕ). v % 256) (c .state-of .ensures .0)))
+loop-again c = search (mode-goes, needs)
 
 same-length : tie.Need-same-length Inv-loop μ-loop
-same-length c = c .before .loop .inv .1 .same
+same-length c = search (fill-same, needs)
 
 returns : tie.Need-returns Inv-loop μ-loop
-unfolding modesListed
-returns c = fill-all 0 _ _ _ _ 256 (c .before .loop .inv .1) (omega arith) (omega arith)
+unfolding modesOfEntries
+returns c = search (fill-ends, needs)
 
 pub fill-modes-spec : {M : Type 1} → statement M
 fill-modes-spec =

@@ -1,27 +1,14 @@
--- `fill::state_of` meets its contract.
+-- `fill::state_of` meets its contract: what stands at the state's entry, 0 past the last.
 use borrow.Author.Needs.{needs}
-use mathlib.Core.Path.{sym, _∙_}
-use native.Mathlib.Omega.{arith}
-use Prim.Native.Nat.{ℕ, _+_, _*_}
-use Rattle.tables.specs.Format.{stateAt}
-use Rattle.tables.specs.Steps.{values}
-use Rattle.tables.proofs.Lists.{tabulate-at, tabulate-past}
-use Rattle.tables.proofs.Taking.{state-value}
+use Rattle.tables.proofs.Filling.{entry-in, entry-out}
 use Rattle.tables.proofs.fill.state_of.Statement.{statement}
 use Rattle.tables.proofs.fill.state_of.Tie as tie
 
 returns : tie.Need-returns
-unfolding values
-returns c =
-    let a = c .before .before .before .before .before .args in
-    let b = a .file .now in
-    (state-value b (2 + a .i * 3) (c .before .before .word .result) (c .wide .result) (c .before .before .word .ensures .0) (c .wide .ensures .0) (c .wide .ensures .1) ∙ sym (tabulate-at (a .n) (λ (i : ℕ). stateAt b (2 + i * 3)) 0 (a .i) (c .before .before .before .if1 .taken)), omega arith)
+returns c = search (entry-in, needs)
 
 returns-2 : tie.Need-returns-2
-unfolding values
-returns-2 c =
-    let a = c .before .before .args in
-    (sym (tabulate-past (a .n) (λ (i : ℕ). stateAt (a .file .now) (2 + i * 3)) 0 (a .i) (c .if1 .left)), omega arith)
+returns-2 c = search (entry-out, needs)
 
 pub state-of-spec : {M : Type 1} → statement M
 state-of-spec =

@@ -1,34 +1,17 @@
--- `put::put_set` meets its contract.
+-- `put::put_set` meets its contract: the number of members, then the members.
 use borrow.Author.Needs.{needs}
-use mathlib.Core.Path.{refl, sym, _∙_}
-use native.Mathlib.Omega.{arith}
-use Rattle.sets.specs.Sets.{member, count}
-use Rattle.tables.specs.Lists.{passing}
-use Rattle.tables.specs.Format.{wordBytes, number, sectionNumber}
-use Rattle.tables.proofs.Putting.{put-same, put-bytes, put-section, section-length, from-zero, members-count}
+use Rattle.tables.proofs.Putting.{set-count-room, set-members-room, set-put}
 use Rattle.tables.proofs.put.put_set.Statement.{statement}
 use Rattle.tables.proofs.put.put_set.Tie as tie
 
-put-word-requires : tie.Need-put-word-requires
-unfolding sectionNumber
-put-word-requires c κs = let e = (section-length (number 0) (λ v. refl) (passing (member ((c .before .before .before .args) .x .words)) 0 256)) in omega arith
-
-add-put-members : tie.Need-add-put-members
-unfolding sectionNumber
-add-put-members c = let e = (section-length (number 0) (λ v. refl) (passing (member ((c .before .before .before .before .before .before .before .args) .x .words)) 0 256)) in omega arith
+put-bits16-requires : tie.Need-put-bits16-requires
+put-bits16-requires c κs = search (set-count-room, needs)
 
 put-members-requires : tie.Need-put-members-requires
-unfolding sectionNumber
-put-members-requires c κs =
-    let a = c .before .before .before .before .before .before .before .args in
-    let x = a .x .words in
-    let e = (section-length (number 0) (λ v. refl) (passing (member x) 0 256)) in let d = put-same (put-bytes {out = a .out .now} {at = a .at} (wordBytes _) (c .before .before .before .put-word .ensures)) in rw (from-zero x) (omega arith, omega arith)
+put-members-requires c κs = search (set-members-room, needs)
 
 returns : tie.Need-returns
-unfolding sectionNumber
-returns c =
-    let x = (c .before .before .before .before .before .before .before .before .before .before .args) .x .words in
-    put-section (number 0) _ (passing (member x) 0 256) (c .before .before .before .before .before .before .before .count .ensures ∙ sym (members-count x)) (c .before .before .before .before .before .before .put-word .ensures) (rw (from-zero x) at (c .before .before .put-members .ensures))
+returns c = search (set-put, needs)
 
 pub put-set-spec : {M : Type 1} → statement M
 put-set-spec =
@@ -36,8 +19,7 @@ put-set-spec =
     (tie.spec
     (λ c κs. search needs)
     (λ c. search needs)
-    put-word-requires
-    add-put-members
+    put-bits16-requires
     put-members-requires
     (λ c. search needs)
     returns)

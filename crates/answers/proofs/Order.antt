@@ -1,0 +1,50 @@
+-- Tests in their order with early returns, `if !a { return 7; } if !b { return 2; } .. 0`, are `firstFailing (7 unless a ∷ 2 unless b ∷ .. [])`.
+--
+-- r is what the code's test answers, a the test that it is. `search (refuses, goes-on, ..)` goes down the list.
+use Prim.Native.Nat.{ℕ}
+use native.Mathlib.Omega.{arith}
+use mathlib.Core.Bool.{Bool, true, false, not, cond}
+use mathlib.Core.List.{List, [], _∷_}
+use mathlib.Core.Path.{_≡_, refl, sym, _∙_}
+use borrow.Author.Tests.{eq-eqb, ne-eqb, eqb-true}
+use lib.Dec.{eqb}
+use Rattle.answers.specs.Refusals.{Test, _unless_, firstFailing}
+
+yes : (b : Bool) → not b ≡ false → b ≡ true
+yes true e = refl
+yes false e = sym e
+
+no : (b : Bool) → not b ≡ true → b ≡ false
+no true e = sym e
+no false e = refl
+
+module _ (n : ℕ) (ts : List Test) where
+  -- a test fails
+  pub refuses : (a r : Bool) → r ≡ a → not r ≡ true → n ≡ firstFailing (n unless a ∷ ts)
+  unfolding firstFailing
+  refuses a r e h = rw (sym e ∙ no r h)
+
+  -- a test passes, and m is what the rest answers
+  pub goes-on : (a r : Bool) (m : ℕ) → r ≡ a → not r ≡ false → m ≡ firstFailing ts → m ≡ firstFailing (n unless a ∷ ts)
+  unfolding firstFailing
+  goes-on a r m e h q = rw (sym e ∙ yes r h) q
+
+  -- the same of two numbers that the code compares
+  pub refuses-other : (a b : ℕ) → (a ≡ b → ⊥) → n ≡ firstFailing (n unless eqb a b ∷ ts)
+  unfolding firstFailing
+  refuses-other a b h = rw (ne-eqb a b h)
+
+  pub goes-on-same : (a b m : ℕ) → a ≡ b → m ≡ firstFailing ts → m ≡ firstFailing (n unless eqb a b ∷ ts)
+  unfolding firstFailing
+  goes-on-same a b m e q = rw (eq-eqb a b e) q
+
+  -- no refusal: the test passes, and so do the rest
+  pub none-failing : (a : Bool) → (n ≡ 0 → ⊥) → firstFailing (n unless a ∷ ts) ≡ 0 → (a ≡ true) × (firstFailing ts ≡ 0)
+  unfolding firstFailing
+  none-failing true h e = (refl, e)
+  none-failing false h e = absurd (h e)
+
+-- every test passes
+pub accepts : 0 ≡ firstFailing []
+unfolding firstFailing
+accepts = refl
