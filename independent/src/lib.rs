@@ -1,7 +1,8 @@
 //! A plain program written from document 01 ("What to make and its exact
-//! rules") and the published slide "AdjointPDR" of document 001, and from
-//! nothing else.  It exists to be compared, answer for answer and byte for
-//! byte, with another implementation.
+//! rules") and the published slide "AdjointPDR" of document 001.  It exists to be compared, answer for answer and byte for
+//! byte, with another implementation.  It shares the decisions on points that
+//! the document leaves open (what a refused answer holds, say), or the two
+//! could not be compared; every other line is a second design.
 //!
 //! * `set`: a set of states, `full`, `count`, `smallest`.
 //! * `table`: the table, when it is sound, f and g (`forward`, `backward`).

@@ -3,12 +3,13 @@
 -- r is what the code's test answers, a the test that it is. `search (refuses, goes-on, ..)` goes down the list.
 use Prim.Native.Nat.{ℕ}
 use native.Mathlib.Omega.{arith}
-use mathlib.Core.Bool.{Bool, true, false, not, cond}
+use mathlib.Core.Bool.{Bool, true, false, not, _&&_, cond}
+use mathlib.Core.Logic.{_≢_}
 use mathlib.Core.List.{List, [], _∷_}
 use mathlib.Core.Path.{_≡_, refl, sym, _∙_}
 use borrow.Author.Tests.{eq-eqb, ne-eqb, eqb-true}
 use lib.Dec.{eqb}
-use Rattle.answers.specs.Refusals.{Test, _unless_, firstFailing}
+use Rattle.answers.specs.Refusals.{Test, _unless_, firstFailing, oneOf}
 
 yes : (b : Bool) → not b ≡ false → b ≡ true
 yes true e = refl
@@ -48,3 +49,25 @@ module _ (n : ℕ) (ts : List Test) where
 pub accepts : 0 ≡ firstFailing []
 unfolding firstFailing
 accepts = refl
+
+-- every number of the tests is one of a list
+unfoldable pub numbersIn : List ℕ → List Test → Bool
+numbersIn ns [] = true
+numbersIn ns (t ∷ ts) = oneOf ns (t .number) && numbersIn ns ts
+
+both : (a b : Bool) → (a && b) ≡ true → (a ≡ true) × (b ≡ true)
+both true b q = (refl, q)
+both false b q = let z : _≡_ {A = ℕ} 0 1 = cc in absurd (omega arith)
+
+-- a refusal is one of the numbers of its tests
+pub failing-in : (ns : List ℕ) (ts : List Test) → numbersIn ns ts ≡ true → firstFailing ts ≢ 0 → oneOf ns (firstFailing ts) ≡ true
+unfolding numbersIn firstFailing
+failing-in ns [] e h = absurd (h refl)
+failing-in ns (t ∷ ts) e h =
+    let (first, rest) = both (oneOf ns (t .number)) (numbersIn ns ts) e in
+    go (t .passes) first (failing-in ns ts rest) h
+  where
+    go : (b : Bool) → oneOf ns (t .number) ≡ true → (firstFailing ts ≢ 0 → oneOf ns (firstFailing ts) ≡ true) → cond b (firstFailing ts) (t .number) ≢ 0
+        → oneOf ns (cond b (firstFailing ts) (t .number)) ≡ true
+    go true first rest h = rest h
+    go false first rest h = first

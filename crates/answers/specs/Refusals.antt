@@ -1,7 +1,8 @@
 -- The refusal numbers of document 01, each named once, and the order in which they are looked for. Code has the same names as constants.
 use Prim.Native.Nat.{ℕ}
-use mathlib.Core.Bool.{Bool, cond}
+use mathlib.Core.Bool.{Bool, false, _||_, cond}
 use mathlib.Core.List.{List, [], _∷_}
+use lib.Dec.{eqb}
 
 -- the call was taken: no refusal
 abbrev pub noRefusal : ℕ
@@ -73,3 +74,8 @@ n unless b = record { number = n; passes = b }
 unfoldable pub firstFailing : List Test → ℕ
 firstFailing [] = noRefusal
 firstFailing (t ∷ ts) = cond (t .passes) (firstFailing ts) (t .number)
+
+-- a number is one of a list
+unfoldable pub oneOf : List ℕ → ℕ → Bool
+oneOf [] k = false
+oneOf (n ∷ ns) k = eqb k n || oneOf ns k

@@ -5,7 +5,7 @@ use mathlib.Core.List.{List}
 use mathlib.Core.Path.{_≡_}
 use lib.ListN.{length}
 use Rattle.tables.proofs.Files.{contents-is}
-use Rattle.tables.proofs.Inverse.{Bytes}
+use Rattle.tables.specs.RoundTrip.{Bytes}
 use Rattle.tables.proofs.Round.{read-proper, moves-counted}
 use Rattle.tables.specs.Control.{controlOf}
 use Rattle.tables.specs.Format.{Contents, taken, contents}

@@ -5,5 +5,6 @@ pub mod Fronts
 pub mod Lengths
 pub mod Stops
 pub mod Fits
+pub mod Means
 pub mod Unique
 pub mod Tried

@@ -12,7 +12,7 @@ use Rattle.sets.proofs.Lists.{length-tabulate}
 use Rattle.sets.proofs.Range.{in-range}
 use Rattle.moves.specs.Models.{Control, on, control}
 use Rattle.tables.proofs.Files.{contents-is}
-use Rattle.tables.proofs.Inverse.{Bytes}
+use Rattle.tables.specs.RoundTrip.{Bytes}
 use Rattle.tables.proofs.Round.{read-proper, read-contents}
 use Rattle.tables.specs.Control.{rowsOfEntries, anglesOfEntries, modesOfEntries, controlOf, sized, reading}
 use Rattle.tables.specs.Format.{Contents, Taken, refusedAt, taken, contents}

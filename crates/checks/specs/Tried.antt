@@ -1,4 +1,4 @@
--- "Tried on small tables": the rows of document 01 that are marked P, as one statement.
+-- "Tried on small tables": the rows of document 01 that are marked P, and that file B gives table B, as one statement.
 use Prim.Native.Nat.{ℕ}
 use mathlib.Core.List.{List, [], _∷_, _++_}
 use mathlib.Core.Path.{_≡_}
@@ -11,6 +11,9 @@ use Rattle.rules.specs.Table.{Table, f, g}
 use Rattle.rules.specs.Rules.{Standing, safe, reached, unfinished, noRoom, fresh}
 use Rattle.rules.specs.Runs.{Ran, run}
 use Rattle.rules.specs.ShownWalk.{shownWalk}
+use Rattle.runs.specs.Hints.{hintsAt}
+use Rattle.tables.specs.Control.{controlOf}
+use Rattle.tables.specs.Format.{Taken, taken, andThen, contents}
 
 -- the set of states below 64 that a word holds
 abbrev pub oneWord : ℕ → Set
@@ -27,6 +30,15 @@ A = three 1 3 2 1 0
 -- moves 0 to 1 and 1 to 2, I {0}, P {0,1}
 abbrev pub B : Table
 B = three 1 3 2 4 0
+
+-- file B, in bytes, and the table that a file gives
+abbrev pub fileB : List ℕ
+fileB =
+    0x03 ∷ 0x00 ∷ 0xAA ∷ 0x00 ∷ 0x00 ∷ 0xB3 ∷ 0x00 ∷ 0x00 ∷ 0x4D ∷ 0xFF ∷ 0x01 ∷ 0x01 ∷ 0x00 ∷ 0x00 ∷ 0x00 ∷ 0x02 ∷ 0x00 ∷ 0x00 ∷ 0x00
+    ∷ 0x01 ∷ 0x00 ∷ 0x02 ∷ 0x00 ∷ 0x00 ∷ 0x00 ∷ 0x01 ∷ 0x00 ∷ 0x01 ∷ 0x00 ∷ 0x02 ∷ 0x00 ∷ []
+
+unfoldable pub tableIn : List ℕ → Taken Table
+tableIn b = andThen (contents b) (λ l. taken (controlOf l .table))
 
 -- no moves
 abbrev pub still : ℕ → ℕ → Table
@@ -57,10 +69,11 @@ seen t b hints = let o : Ran = run t b hints (fresh t) in reasonOf t o (o .stand
 -- 24 is 2·N·N + 2·N for N = 3
 abbrev pub Rows : Type 0
 Rows =
-    (f B (oneWord 3) ≡ oneWord 6)
+    (tableIn fileB ≡ taken B)
+    × (f B (oneWord 3) ≡ oneWord 6)
     × (g B (oneWord 3) ≡ oneWord 5)
     × (seen A 24 [] ≡ saw (safe 1) (oneWord 3) [] 5 0 0)
-    × (seen A 24 (oneWord 7 ∷ oneWord 1 ∷ []) ≡ saw (safe 2) (oneWord 3) [] 8 2 1)
+    × (seen A 24 (hintsAt (7 ∷ 0 ∷ 0 ∷ 0 ∷ 1 ∷ 0 ∷ 0 ∷ 0 ∷ []) 0) ≡ saw (safe 2) (oneWord 3) [] 8 2 1)
     × (seen B 10 [] ≡ saw unfinished [] [] 10 0 0)
     × (seen B 11 [] ≡ saw reached [] (0 ∷ 1 ∷ 2 ∷ []) 11 0 0)
     × (seen (still 0 0) 24 [] ≡ saw (safe 0) (oneWord 0) [] 2 0 0)

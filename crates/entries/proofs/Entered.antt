@@ -14,12 +14,13 @@ use Rattle.rules.specs.Buffer.{entryCheck}
 use Rattle.rules.specs.Table.{Table, soundTable}
 use Rattle.sets.proofs.Range.{range-says}
 use Rattle.sets.proofs.Tests.{passed, eqb-says}
-use Rattle.sets.specs.Sets.{Proper}
+use Rattle.sets.specs.Sets.{Proper, inRange}
 
 -- what was tested
 pub record Entered (t : Table) (b : List ℕ) : Type 0 where
   pub long : length b ≡ 2066
   pub rows : length (t .rows) ≡ 1024
+  pub range : inRange (t .size) ≡ true
   pub big : t .size ≤ 256
   pub sound : soundTable t ≡ true
   pub entry : entryCheck t b ≡ true
@@ -35,6 +36,7 @@ entered t b e =
     record {
       long = passed (eqb-says _ _) long;
       rows = passed (eqb-says _ _) rows;
+      range = range;
       big = passed (range-says (t .size)) range .1;
       sound = sound;
       entry = entry;

@@ -18,7 +18,7 @@ fn passes(moves: &[u64], model: Model, buf: &[u64]) -> bool
     requires { ⌜ (length (now buf) ≡ 2066) × Good (on model (now moves)) ⌝ }
     ensures { λ r. ⌜ r ≡ entryCheck (on model (now (moves .entry))) (now (buf .entry)) ⌝ }
 {
-    if !places::in_range(model.size, buf[0], buf[1]) {
+    if !places::ranges(model.size, buf[0], buf[1]) {
         return false;
     }
     if !places::unused(buf) {

@@ -9,7 +9,7 @@ ghost use Rattle.rules.specs.Buffer.{decode, each, clearX, clearY, unused, soun
 ghost use Rattle.rules.proofs.Ready.{Spans};
 
 // Whether n is 2 to N+2 and k is 1 to n.
-pub fn in_range(size: u16, n: u64, k: u64) -> bool
+pub fn ranges(size: u16, n: u64, k: u64) -> bool
     ensures { λ r. ⌜ r ≡ each (leb 2 n ∷ leb n (size + 2) ∷ leb 1 k ∷ leb k n ∷ []) ⌝ }
 {
     if n < 2 {

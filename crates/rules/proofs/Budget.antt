@@ -1,12 +1,12 @@
 -- What a run leaves and counts, and budgets: b rules, then c rules more.
-use Prim.Native.Nat.{ℕ, zero, suc, _+_, _≤_, _<_}
-use native.Mathlib.Nat.{zero-add, add-assoc, suc-add, add-zero}
+use Prim.Native.Nat.{ℕ, zero, suc, _+_, _≤_}
+use native.Mathlib.Nat.{zero-add, add-assoc, suc-add}
 use native.Mathlib.Omega.{arith}
 use mathlib.Core.List.{List}
-use mathlib.Core.Logic.{_⊎_, inl, inr, _↔_, _≢_}
+use mathlib.Core.Logic.{_⊎_, inl, inr, _≢_}
 use mathlib.Core.Path.{_≡_, refl, sym, ap, _∙_}
-use Rattle.rules.proofs.Ends.{opened, run-done, run-open, run-ind}
-use Rattle.rules.proofs.Invariant.{Open, Invariant}
+use Rattle.rules.proofs.Ends.{run-done, run-open, run-ind}
+use Rattle.rules.proofs.Invariant.{Invariant}
 use Rattle.rules.specs.Rules.{conclusion, State, Standing, unfinished}
 use Rattle.rules.specs.Runs.{stop, after, followedBy, choose, run, Choice, Ran}
 use Rattle.rules.specs.Table.{Table}
@@ -50,31 +50,3 @@ module _ (t : Table) (big : t .size ≤ 256) where
       stops : (b : ℕ) (hs : List Set) (s : State) → (b ≡ 0) ⊎ (conclusion t s ≢ unfinished) → (c : ℕ) → run t (b + c) hs s ≡ run t c hs s
       stops b hs s (inl z) c = rw (z, zero-add)
       stops b hs s (inr h) c = run-done t (b + c) hs s h ∙ sym (run-done t c hs s h)
-
-  -- an open run of at least one rule fires one
-  run-fires : (b : ℕ) (hs : List Set) (s : State) → Invariant t s → Open t s → 0 < (run t (suc b) hs s) .rules
-  unfolding after
-  run-fires b hs s v o = rw (run-open t big b hs s v o) (omega arith)
-
-  -- unfinished exactly where the rules need more than the budget
-  pub needs-more : (b c : ℕ) (hs : List Set) (s : State) → Invariant t s → (run t (b + c) hs s) .standing ≢ unfinished
-      → ((run t b hs s) .standing ≡ unfinished) ↔ (b < (run t (b + c) hs s) .rules)
-  unfolding followedBy stop
-  needs-more b c hs s v h = (more, less)
-    where
-      more : (run t b hs s) .standing ≡ unfinished → b < (run t (b + c) hs s) .rules
-      more e = go c refl
-        where
-          go : (d : ℕ) → c ≡ d → b < (run t (b + c) hs s) .rules
-          go zero q = absurd (h (rw (q, add-zero) e))
-          go (suc d) q =
-              rw (q, budget b hs s v (suc d))
-              (let still-open = sym (run-standing b hs s v) ∙ e in
-              omega (arith, run-spent b hs s v e, run-fires d ((run t b hs s) .left) ((run t b hs s) .state) (run-keeps b hs s v) still-open))
-
-      less : b < (run t (b + c) hs s) .rules → (run t b hs s) .standing ≡ unfinished
-      less l =
-          elim (opened t ((run t b hs s) .state)) [
-            | inl o ↦ run-standing b hs s v ∙ o
-            | inr d ↦ absurd (omega (arith, run-most b hs s v, rw (budget b hs s v c, run-done t c ((run t b hs s) .left) ((run t b hs s) .state) d) at l))
-          ]

@@ -3,26 +3,29 @@ use Prim.Native.Nat.{ℕ, suc, _+_, _-_, _≤_, _<_, _^_}
 use native.Mathlib.Omega.{arith}
 use mathlib.Core.Bool.{Bool}
 use mathlib.Core.List.{List}
-use mathlib.Core.Logic.{inl, inr, _≢_}
+use mathlib.Core.Logic.{_⊎_, inl, inr, _↔_, _≢_}
 use mathlib.Core.Path.{_≡_, refl, sym, ap, _∙_}
 use lib.ListN.{length, getD}
 use Rattle.rules.proofs.Adjoint.{f-mono, g-mono, forward-backward}
-use Rattle.rules.proofs.Budget.{run-standing, run-keeps, run-most, budget, needs-more}
-use Rattle.rules.proofs.Ends.{run-none, run-done, enough}
+use Rattle.rules.proofs.Budget.{run-standing, run-keeps, run-most, run-spent, budget}
+use Rattle.rules.proofs.Ends.{opened, run-none, run-done, enough}
 use Rattle.rules.proofs.Entry.{entry-inv, inv-entry}
 use Rattle.rules.proofs.Held.{fit-by, held-back, kept-accepts}
 use Rattle.rules.proofs.Invariant.{put-same, put-other, Invariant}
 use Rattle.rules.proofs.Keep.{due-is, allowed-ok, ok-allowed, few-sets, house-ok, keep}
-use Rattle.rules.proofs.Meaning.{never-noRoom, closed-safe, safe-closed, none-shorter, reached-real, walk-length, reached-bad}
+use Rattle.rules.proofs.Meaning.{never-noRoom, closed-safe, real-walked, safe-closed, none-shorter, reached-real, walk-length, reached-bad}
 use Rattle.rules.proofs.Normal.{fire-normal}
-use Rattle.rules.proofs.Published.{is-step, step-is, run-steps}
+use Rattle.rules.proofs.Published.{open-not-x, open-not-y, not-open, by-slide, is-step, step-is, run-steps}
+use Rattle.rules.proofs.Published.{Settled, both-end, no-longer, one-length, agree, slide-once}
 use Rattle.rules.specs.Buffer.{decode}
-use Rattle.rules.specs.Demands.{bound, Passes, Ended, Same, Adjoint, Kept, Published, Demand2, Demand3, Budget, Encoding, Rewritten, ended-safe}
-use Rattle.rules.specs.Demands.{ended-reached, same-safe, same-reached}
+use Rattle.rules.specs.Demands.{bound, Passes, Ended, Same, Adjoint, Kept, Published, Course, Decided, Demand2, Demand3, SameVerdict, OneAnswer}
+use Rattle.rules.specs.Demands.{Budget, Encoding, Rewritten, ended-safe, ended-reached, same-safe, same-reached}
+use Rattle.rules.specs.Published.{Conclusive, BySlide, by-x, by-y, by-neither}
+use Rattle.rules.specs.ShownWalk.{shownWalk}
 use Rattle.rules.specs.Rules.{noRoom, fresh, freshOf, conclusion, due, State, Standing, safe, reached, unfinished}
 use Rattle.rules.specs.Runs.{stop, followedBy, run, Ran}
 use Rattle.rules.specs.Table.{f, g, Table}
-use Rattle.rules.specs.Walks.{BadReached, Closed}
+use Rattle.rules.specs.Walks.{BadReached, RealWalk, Closed}
 use Rattle.sets.proofs.Tests.{clash, lt-or-ge, Says, pass, fail}
 use Rattle.sets.proofs.Within.{within-says, is-within, not-both, within-true, within-false, not-within, empty-within, within-full, Within, Beyond}
 use Rattle.sets.specs.Sets.{Set, empty, full, within}
@@ -36,6 +39,10 @@ ended-or noRoom h k = absurd (k refl)
 not-unfinished : {r : Standing} → Ended r → r ≢ unfinished
 not-unfinished (ended-safe j) e = let z : _≡_ {A = ℕ} 0 1 = cc in omega arith
 not-unfinished ended-reached e = let z : _≡_ {A = ℕ} 0 1 = cc in omega arith
+
+-- a real walk shows that a bad state is reached
+pub shown-bad : (t : Table) {w : List ℕ} → RealWalk t w → BadReached t
+shown-bad t r = let a = real-walked t r in record { states = _; last = a .0; walked = a .1; bad = a .2 }
 
 module _ (t : Table) (big : t .size ≤ 256) where
   pub adjoint : Adjoint t
@@ -128,58 +135,165 @@ module _ (t : Table) (big : t .size ≤ 256) where
         rw (← q, budget t big (bound (t .size)) hs s v (b - bound (t .size)), d) (omega (arith, run-most t big (bound (t .size)) hs s v))
   ]
 
-  -- two runs that ended say the same
-  pub same-verdict : (s s′ : State) → Invariant t s → Invariant t s′ → (b b′ : ℕ) (hs hs′ : List Set)
-      → Ended ((run t b hs s) .standing) → Ended ((run t b′ hs′ s′) .standing) → Same ((run t b hs s) .standing) ((run t b′ hs′ s′) .standing)
-  same-verdict s s′ v v′ b b′ hs hs′ p q = go _ _ refl refl p q
-    where
-      clash-of : {j : ℕ} (s₁ s₂ : State) → Invariant t s₁ → Invariant t s₂ → (b₁ b₂ : ℕ) (h₁ h₂ : List Set)
-          → (run t b₁ h₁ s₁) .standing ≡ safe j → (run t b₂ h₂ s₂) .standing ≡ reached → ⊥
-      clash-of {j} s₁ s₂ v₁ v₂ b₁ b₂ h₁ h₂ e e′ = closed-safe t (safe-is-closed s₁ v₁ b₁ h₁ j e) (reached-is-bad s₂ v₂ b₂ h₂ e′)
+  -- ---- the published rules under hints, from a run that passes
+  module _ (s : State) (v : Invariant t s) (hs : List Set) where
+    ended-conclusive : (b : ℕ) → (run t b hs s) .standing ≢ unfinished → Conclusive t ((run t b hs s) .state)
+    ended-conclusive b h = not-open t _ (λ e. h (run-standing t big b hs s v ∙ e))
 
-      go : (r r′ : Standing) → (run t b hs s) .standing ≡ r → (run t b′ hs′ s′) .standing ≡ r′ → Ended r → Ended r′ → Same r r′
-      go r r′ e e′ (ended-safe i) (ended-safe j) = same-safe i j
-      go r r′ e e′ (ended-safe i) ended-reached = absurd (clash-of s s′ v v′ b b′ hs hs′ e e′)
-      go r r′ e e′ ended-reached (ended-safe j) = absurd (clash-of s′ s v′ v b′ b hs′ hs e′ e)
-      go r r′ e e′ ended-reached ended-reached = same-reached
+    course : (b : ℕ) → (run t b hs s) .standing ≢ unfinished → Course t hs s
+    course b h =
+        let o : Ran = run t b hs s in
+        record {
+          rules = o .rules;
+          taken = o .taken;
+          used = o .used;
+          left = o .left;
+          end = o .state;
+          steps = run-steps t big b hs s v;
+          conclusive = ended-conclusive b h;
+        }
 
-  module _ (s : State) (p : Passes t s) (b : ℕ) (hs : List Set) where
+    pub decided : Decided t hs s
+    unfolding course
+    decided =
+        record {
+          once = λ c c′.
+              let a = agree t big (c .steps) (c′ .steps) (both-end (c .conclusive) (c′ .conclusive)) in
+              (a .rules, a .took, a .uses, a .rest, a .ends);
+          ends = (course (bound (t .size)) (enough t big _ hs s v (omega arith)), run-most t big (bound (t .size)) hs s v);
+        }
+
+    -- what a run that ended counts is what any course counts
+    pub counts : (b : ℕ) → Ended ((run t b hs s) .standing) → (c : Course t hs s)
+        → ((run t b hs s) .rules ≡ c .rules) × ((run t b hs s) .taken ≡ c .taken) × ((run t b hs s) .used ≡ c .used)
+    counts b e c =
+        let a = agree t big (run-steps t big b hs s v) (c .steps) (both-end (ended-conclusive b (not-unfinished e)) (c .conclusive)) in
+        (a .rules, a .took, a .uses)
+
+    -- a course longer than the budget, or an end
+    unfinished-iff : (b : ℕ) (c : Course t hs s) → ((run t b hs s) .standing ≡ unfinished) ↔ (b < c .rules)
+    unfinished-iff b c = (more, less)
+      where
+        more : (run t b hs s) .standing ≡ unfinished → b < c .rules
+        more e = elim (lt-or-ge b (c .rules)) [
+          | inl l ↦ l
+          | inr l ↦
+              let spent = run-spent t big b hs s v e in
+              let a = agree t big (c .steps) (run-steps t big b hs s v) (no-longer (c .conclusive) (omega arith)) in
+              absurd (still-open e (rw (a .ends) at (c .conclusive)))
+        ]
+          where
+            still-open : (run t b hs s) .standing ≡ unfinished → Conclusive t ((run t b hs s) .state) → ⊥
+            still-open e (inl w) = open-not-x t _ (at-state s v b hs e) w
+            still-open e (inr w) = open-not-y t _ (at-state s v b hs e) w
+
+        less : b < c .rules → (run t b hs s) .standing ≡ unfinished
+        less l = elim (opened t ((run t b hs s) .state)) [
+          | inl o ↦ run-standing t big b hs s v ∙ o
+          | inr d ↦
+              let a = counts b (has-ended s v b hs (λ e. d (at-state s v b hs e))) c in
+              absurd (omega (arith, a .0, run-most t big b hs s v))
+        ]
+
+  -- ---- the demands, of a run and what it shows
+  module _ (s : State) (p : Passes t s) (b : ℕ) (hs : List Set) (set : Set) (walk : List ℕ) where
     v : Invariant t s
     v = entry-inv t s p
 
-    pub demand-2 : Demand2 t s b hs
-    demand-2 =
-        record {
-          rules-published = run-steps t big b hs s v;
-          safe-reason = safe-is-closed s v b hs;
-          reached-walk = λ e. reached-real t big _ (kept-state s v b hs) (at-state s v b hs e);
-          exactly = λ e. (λ w. closed-safe t (safe-is-closed s v b hs (w .0) (w .1)), says-safe _ refl e);
-        }
+    abbrev o : Ran
+    o = run t b hs s
+
+    module _ (set-is : (j : ℕ) → o .standing ≡ safe j → set ≡ o .state .x j) (walk-is : o .standing ≡ reached → walk ≡ shownWalk t (o .state)) where
+      pub demand-2 : Demand2 t s b hs o set walk
+      demand-2 =
+          record {
+            rules-published = run-steps t big b hs s v;
+            stands = rw (run-standing t big b hs s v) (by-slide t (o .state));
+            spent = run-spent t big b hs s v;
+            set-is = set-is;
+            walk-is = walk-is;
+            safe-reason = λ j e. rw (set-is j e) (safe-is-closed s v b hs j e);
+            reached-walk = λ e. rw (walk-is e) (reached-real t big _ (kept-state s v b hs) (at-state s v b hs e));
+            exactly = λ e. (λ w. closed-safe t (safe-is-closed s v b hs (w .0) (w .1)), says-safe _ refl e);
+          }
+        where
+          says-safe : (r : Standing) → o .standing ≡ r → Ended r → (BadReached t → ⊥) → (j : ℕ) × (r ≡ safe j)
+          says-safe r e (ended-safe j) h = (j, refl)
+          says-safe r e ended-reached h = absurd (h (reached-is-bad s v b hs e))
+
+      pub demand-3 : Demand3 t s b hs o set walk
+      demand-3 =
+          record {
+            ends = ends-by s v b hs;
+            in-bound = rules-bound s v b hs;
+            in-budget = run-most t big b hs s v;
+            counted = λ c e. counts s v hs b e c;
+            unfinished-exactly = unfinished-iff s v hs b;
+            fewest = λ e m u w d. elim (lt-or-ge m (o .state .n - 1)) [
+              | inl l ↦ absurd (clash (none-shorter t big _ (kept-state s v b hs) w (omega (arith, (kept-state s v b hs) .two))) (d .unsafe))
+              | inr l ↦ rw (walk-is e, walk-length t big (o .state)) l
+            ];
+          }
+
+  pub budgets : (s : State) → Passes t s → (b : ℕ) (hs : List Set) → Budget t s b hs
+  unfolding stop
+  budgets s p b hs = record { split = budget t big b hs s (entry-inv t s p); concluded-at-once = λ h. rw (run-none t hs s) }
+
+  -- two answers that meet demand 2 never disagree, whatever they come from
+  pub same-verdicts : {s s′ : State} {b b′ : ℕ} {hs hs′ : List Set} {o o′ : Ran} {set set′ : Set} {walk walk′ : List ℕ}
+      → Demand2 t s b hs o set walk → Demand2 t s′ b′ hs′ o′ set′ walk′ → SameVerdict t o o′
+  same-verdicts {o = o} {o′} d d′ = record { same = λ e e′. go _ _ refl refl e e′ }
+    where
+      go : (r r′ : Standing) → o .standing ≡ r → o′ .standing ≡ r′ → Ended r → Ended r′ → Same r r′
+      go r r′ q q′ (ended-safe i) (ended-safe j) = same-safe i j
+      go r r′ q q′ (ended-safe i) ended-reached = absurd (closed-safe t (d .safe-reason i q) (shown-bad t (d′ .reached-walk q′)))
+      go r r′ q q′ ended-reached (ended-safe j) = absurd (closed-safe t (d′ .safe-reason j q′) (shown-bad t (d .reached-walk q)))
+      go r r′ q q′ ended-reached ended-reached = same-reached
+
+  -- ---- one answer: what demand 2 allows within the budget
+  module _ {s : State} {b : ℕ} {hs : List Set} where
+    only-one : (o o′ : Ran) {set set′ : Set} {walk walk′ : List ℕ} → Demand2 t s b hs o set walk → Demand2 t s b hs o′ set′ walk′
+        → o .rules ≤ b → o′ .rules ≤ b → o ≡ o′
+    only-one o o′ d d′ l l′ = go (d .stands) (d′ .stands) refl refl
       where
-        says-safe : (r : Standing) → (run t b hs s) .standing ≡ r → Ended r → (BadReached t → ⊥) → (j : ℕ) × (r ≡ safe j)
-        says-safe r e (ended-safe j) h = (j, refl)
-        says-safe r e ended-reached h = absurd (h (reached-is-bad s v b hs e))
+        alike : Settled t big (o .rules) (o′ .rules) (o .state) (o′ .state) → o ≡ o′
+        alike w =
+            let a = agree t big (d .rules-published) (d′ .rules-published) w in
+            let q = slide-once t (rw (a .ends) at (d .stands)) (d′ .stands) in
+            λ i. record { standing = q i; rules = a .rules i; taken = a .took i; used = a .uses i; left = a .rest i; state = a .ends i }
 
-    pub demand-3 : Demand3 t s b hs
-    demand-3 =
-        record {
-          ends = ends-by s v b hs;
-          in-bound = rules-bound s v b hs;
-          in-budget = run-most t big b hs s v;
-          same = λ s′ b′ hs′ p′. same-verdict s s′ v (entry-inv t s′ p′) b b′ hs hs′;
-          fewest = λ e m u w d. elim (lt-or-ge m ((run t b hs s) .state .n - 1)) [
-            | inl l ↦ absurd (clash (none-shorter t big _ (kept-state s v b hs) w (omega (arith, (kept-state s v b hs) .two))) (d .unsafe))
-            | inr l ↦ rw (walk-length t big ((run t b hs s) .state)) l
-          ];
-        }
+        alike′ : Settled t big (o′ .rules) (o .rules) (o′ .state) (o .state) → o ≡ o′
+        alike′ w =
+            let a = agree t big (d′ .rules-published) (d .rules-published) w in
+            let q = slide-once t (rw (a .ends) at (d′ .stands)) (d .stands) in
+            sym (λ i. record { standing = q i; rules = a .rules i; taken = a .took i; used = a .uses i; left = a .rest i; state = a .ends i })
 
-    pub budgets : Budget t s b hs
-    unfolding stop
-    budgets =
+        ended : {e : State} {r : Standing} → BySlide t e r → (r ≡ unfinished) ⊎ Conclusive t e
+        ended (by-x c) = inr (inl (record { j = _; below = c .below; is = c .is }))
+        ended (by-y n c) = inr (inr c)
+        ended (by-neither n) = inl refl
+
+        go : {r r′ : Standing} → BySlide t (o .state) r → BySlide t (o′ .state) r′ → o .standing ≡ r → o′ .standing ≡ r′ → o ≡ o′
+        go p p′ e e′ = elim (ended p) [
+          | inl u ↦ elim (ended p′) [
+            | inl u′ ↦ alike (one-length (d .spent (e ∙ u) ∙ sym (d′ .spent (e′ ∙ u′))))
+            | inr c′ ↦ alike′ (no-longer c′ (omega (arith, d .spent (e ∙ u))))
+          ]
+          | inr c ↦ elim (ended p′) [
+            | inl u′ ↦ alike (no-longer c (omega (arith, d′ .spent (e′ ∙ u′))))
+            | inr c′ ↦ alike (both-end c c′)
+          ]
+        ]
+
+    pub one-answer : OneAnswer t s b hs
+    one-answer =
         record {
-          split = budget t big b hs s v;
-          unfinished-exactly = λ c e. needs-more t big b c hs s v (not-unfinished e);
-          concluded-at-once = λ h. rw (run-none t hs s);
+          one = λ o o′ set set′ walk walk′ d d′ l l′.
+              let e = only-one o o′ d d′ l l′ in (
+                e,
+                λ j q. d .set-is j q ∙ ap (λ a. a .state .x j) e ∙ sym (d′ .set-is j (sym (ap (λ a. a .standing) e) ∙ q)),
+                λ q. d .walk-is q ∙ ap (λ a. shownWalk t (a .state)) e ∙ sym (d′ .walk-is (sym (ap (λ a. a .standing) e) ∙ q)),
+              );
         }
 
   pub encoding : (b : List ℕ) → length b ≡ 2066 → ((i : ℕ) → getD b i 0 < 2 ^ 64) → Encoding t b

@@ -49,6 +49,13 @@ module _ (t : Table) where
   Ok Conflict s z =
       Within (t .size) z (s .y (s .k)) × Within (t .size) (t .starts) z × Within (t .size) (f t (meet (t .size) (s .x (s .k - 1)) z)) z
 
+  pub ok-allowed : (r : Rule) (s : State) (z : Set) → Ok r s z → allowed t r s z ≡ true
+  unfolding allowed
+  ok-allowed Unfold s z h = refl
+  ok-allowed Candidate s z h = rw (within-true (t .size) (h .0), within-false (t .size) (h .1))
+  ok-allowed Decide s z h = rw (within-true (t .size) (h .0), within-false (t .size) (h .1))
+  ok-allowed Conflict s z h = rw (within-true (t .size) (h .0), within-true (t .size) (h .1), within-true (t .size) (h .2))
+
   pub allowed-ok : (r : Rule) (s : State) (z : Set) → allowed t r s z ≡ true → Ok r s z
   unfolding allowed
   allowed-ok Unfold s z e = tt
@@ -62,13 +69,6 @@ module _ (t : Table) where
       let h = and-true _ _ e in
       let h′ = and-true _ _ (h .0) in
       (is-within (t .size) _ _ (h′ .0), is-within (t .size) _ _ (h′ .1), is-within (t .size) _ _ (h .1))
-
-  pub ok-allowed : (r : Rule) (s : State) (z : Set) → Ok r s z → allowed t r s z ≡ true
-  unfolding allowed
-  ok-allowed Unfold s z h = refl
-  ok-allowed Candidate s z h = rw (within-true (t .size) (h .0), within-false (t .size) (h .1))
-  ok-allowed Decide s z h = rw (within-true (t .size) (h .0), within-false (t .size) (h .1))
-  ok-allowed Conflict s z h = rw (within-true (t .size) (h .0), within-true (t .size) (h .1), within-true (t .size) (h .2))
 
   -- the chain rises
   pub chain : (s : State) → Invariant t s → (i j : ℕ) → i ≤ j → j < s .n → Within (t .size) (s .x i) (s .x j)

@@ -27,6 +27,7 @@ module _ (t : Table) where
   pub record SafeAt (s : State) (j : ℕ) : Type 0 where
     pub lt : suc j < s .n
     pub is : Within (t .size) (s .x (suc j)) (s .x j)
+    pub first : (i : ℕ) → i < j → Beyond (t .size) (s .x (suc i)) (s .x i)
 
   pub safe-at : (s : State) (j : ℕ) → conclusion t s ≡ safe j → SafeAt s j
   unfolding conclusionOf concludes closes
@@ -35,7 +36,11 @@ module _ (t : Table) where
       go : (r : Option ℕ) (b : Bool) → Least (s .n - 1) (closes (t .size) s) r → concludes r b ≡ safe j → SafeAt s j
       go r b (here i l p h) q =
           let d : i ≡ j = cc in
-          let a : SafeAt s i = record { lt = omega arith; is = is-within (t .size) (s .x (suc i)) (s .x i) p } in
+          let a : SafeAt s i = record {
+            lt = omega arith;
+            is = is-within (t .size) (s .x (suc i)) (s .x i) p;
+            first = λ k m. is-beyond (t .size) (s .x (suc k)) (s .x k) (h k m);
+          } in
           rw d at a
       go r true (nowhere h) q = let z : _≡_ {A = ℕ} 0 1 = cc in absurd (omega arith)
       go r false (nowhere h) q = let z : _≡_ {A = ℕ} 0 1 = cc in absurd (omega arith)
@@ -61,6 +66,15 @@ module _ (t : Table) where
   reached-at s e =
       let a = and-true (eqb (s .k) 1) (not (within (t .size) (t .starts) (s .y 1))) (concludes-reached _ _ e) in
       (passed (eqb-says (s .k) 1) (a .0), is-beyond (t .size) _ _ (not-true _ (a .1)))
+
+  -- a reached run has no x that lies within the one below it
+  pub reached-up : (s : State) → conclusion t s ≡ reached → (j : ℕ) → suc j < s .n → Beyond (t .size) (s .x (suc j)) (s .x j)
+  unfolding conclusionOf concludes closes
+  reached-up s e j l = go _ _ (least-is (s .n - 1) (closes (t .size) s)) e
+    where
+      go : (r : Option ℕ) (b : Bool) → Least (s .n - 1) (closes (t .size) s) r → concludes r b ≡ reached → Beyond (t .size) (s .x (suc j)) (s .x j)
+      go r b (here i _ p h) q = let z : _≡_ {A = ℕ} 0 1 = cc in absurd (omega arith)
+      go r b (nowhere h) q = is-beyond (t .size) (s .x (suc j)) (s .x j) (h j (omega arith))
 
   -- ---- walks
   pub walked-below : {m u : ℕ} → Walked t m u → u < t .size

@@ -6,7 +6,7 @@ use mathlib.Core.Logic.{_↔_, _≢_}
 use mathlib.Core.Path.{_≡_}
 use lib.ListN.{length}
 use Rattle.rules.specs.Buffer.{encode, each, conditions, entryCheck, Normal}
-use Rattle.rules.specs.Published.{Step}
+use Rattle.rules.specs.Published.{Step, BySlide, Conclusive}
 use Rattle.rules.specs.Rules.{fresh, conclusion, due, allowed, house, fire, State, Standing, Rule, safe, reached, unfinished}
 use Rattle.rules.specs.Runs.{followedBy, choose, run, Ran}
 use Rattle.rules.specs.ShownWalk.{shownWalk}
@@ -63,42 +63,73 @@ module _ (t : Table) where
         → Steps m taken used ((choose t hints s) .left) s′ left s″
         → Steps (1 + m) ((choose t hints s) .taken + taken) ((choose t hints s) .used + used) hints s left s″
 
-  module _ (s : State) (b : ℕ) (hints : List Set) where
-    abbrev pub after-run : Ran
-    after-run = run t b hints s
+  -- the published rules under these hints, from a state on, to where x or y is conclusive
+  pub record Course (hints : List Set) (s : State) : Type 0 where
+    pub rules : ℕ
+    pub taken : ℕ
+    pub used : ℕ
+    pub left : List Set
+    pub end : State
+    pub steps : Steps rules taken used hints s left end
+    pub conclusive : Conclusive t end
 
+  -- the hints and the state decide the steps: sequences that end conclusive have one length, one count of hints taken and used,
+  -- and one end; and there is one, of at most 2·N·N + 2·N steps
+  pub record Decided (hints : List Set) (s : State) : Type 0 where
+    pub once : (c c′ : Course hints s)
+        → (c .rules ≡ c′ .rules) × (c .taken ≡ c′ .taken) × (c .used ≡ c′ .used) × (c .left ≡ c′ .left) × (c .end ≡ c′ .end)
+    pub ends : (c : Course hints s) × (c .rules ≤ bound (t .size))
+
+  -- what a run answers: what it came to, and the set or the walk that it shows
+  module _ (s : State) (budget : ℕ) (hints : List Set) (o : Ran) (set : Set) (walk : List ℕ) where
     -- demand 2
     pub record Demand2 : Type 0 where
       -- the rules fired are those published, with the choices that the hints make, and the numbers are as reported
-      pub rules-published : Steps (after-run .rules) (after-run .taken) (after-run .used) hints s (after-run .left) (after-run .state)
+      pub rules-published : Steps (o .rules) (o .taken) (o .used) hints s (o .left) (o .state)
+      -- it says how the state that it leaves stands, and is unfinished only where the budget is spent
+      pub stands : BySlide t (o .state) (o .standing)
+      pub spent : o .standing ≡ unfinished → o .rules ≡ budget
+      -- the set shown is x_j of that state, the walk shown is its walk
+      pub set-is : (j : ℕ) → o .standing ≡ safe j → set ≡ o .state .x j
+      pub walk-is : o .standing ≡ reached → walk ≡ shownWalk t (o .state)
       -- safe: the reason holds every start, no bad state, and every move out of its own members
-      pub safe-reason : (j : ℕ) → after-run .standing ≡ safe j → Closed t (after-run .state .x j)
+      pub safe-reason : (j : ℕ) → o .standing ≡ safe j → Closed t set
       -- reached: it shows a real walk
-      pub reached-walk : after-run .standing ≡ reached → RealWalk t (shownWalk t (after-run .state))
+      pub reached-walk : o .standing ≡ reached → RealWalk t walk
       -- a run that ends says safe exactly when no bad state can be reached
-      pub exactly : Ended (after-run .standing) → ((j : ℕ) × (after-run .standing ≡ safe j)) ↔ (BadReached t → ⊥)
+      pub exactly : Ended (o .standing) → ((j : ℕ) × (o .standing ≡ safe j)) ↔ (BadReached t → ⊥)
 
     -- demand 3
     pub record Demand3 : Type 0 where
       -- it ends if the budget allows 2·N·N + 2·N rules, and never fires more
-      pub ends : bound (t .size) ≤ b → Ended (after-run .standing)
-      pub in-bound : after-run .rules ≤ bound (t .size)
+      pub ends : bound (t .size) ≤ budget → Ended (o .standing)
+      pub in-bound : o .rules ≤ bound (t .size)
       -- it fires at most the budget's number of rules
-      pub in-budget : after-run .rules ≤ b
-      -- the verdict of a run that ends is the same for all hints, budgets and runs that pass the entry check
-      pub same : (s′ : State) (b′ : ℕ) (hints′ : List Set) → Passes s′ → Ended (after-run .standing) → Ended ((run t b′ hints′ s′) .standing)
-          → Same (after-run .standing) ((run t b′ hints′ s′) .standing)
+      pub in-budget : o .rules ≤ budget
+      -- the number reported is the number the published rules take under those hints
+      pub counted : (c : Course hints s) → Ended (o .standing) → (o .rules ≡ c .rules) × (o .taken ≡ c .taken) × (o .used ≡ c .used)
+      -- "unfinished" exactly when the published rules under these hints need more than the budget
+      pub unfinished-exactly : (c : Course hints s) → (o .standing ≡ unfinished) ↔ (budget < c .rules)
       -- a walk shown has the fewest states of any walk from a start to a bad state
-      pub fewest : after-run .standing ≡ reached → (m u : ℕ) → Walked t m u → Bad t u → length (shownWalk t (after-run .state)) ≤ m
+      pub fewest : o .standing ≡ reached → (m u : ℕ) → Walked t m u → Bad t u → length walk ≤ m
 
-    -- hints and budget
-    pub record Budget : Type 0 where
-      -- b, then c with the hints that remain, ends as b + c does, the numbers added
-      pub split : (c : ℕ) → run t (b + c) hints s ≡ followedBy after-run (run t c (after-run .left) (after-run .state))
-      -- unfinished exactly when the rules under these hints need more than the budget
-      pub unfinished-exactly : (c : ℕ) → Ended ((run t (b + c) hints s) .standing) → (after-run .standing ≡ unfinished) ↔ (b < (run t (b + c) hints s) .rules)
-      -- a budget of 0 on a concluded run gives the verdict
-      pub concluded-at-once : conclusion t s ≢ unfinished → (run t 0 hints s) .standing ≡ conclusion t s
+  -- demand 2 leaves one answer within the budget, and one set or walk that it shows
+  pub record OneAnswer (s : State) (budget : ℕ) (hints : List Set) : Type 0 where
+    pub one : (o o′ : Ran) (set set′ : Set) (walk walk′ : List ℕ) → Demand2 s budget hints o set walk → Demand2 s budget hints o′ set′ walk′
+        → o .rules ≤ budget → o′ .rules ≤ budget
+        → (o ≡ o′) × ((j : ℕ) → o .standing ≡ safe j → set ≡ set′) × (o .standing ≡ reached → walk ≡ walk′)
+
+  -- the verdict of a run that ends is the same for all hints, budgets and runs that pass the entry check
+  pub record SameVerdict (o o′ : Ran) : Type 0 where
+    pub same : Ended (o .standing) → Ended (o′ .standing) → Same (o .standing) (o′ .standing)
+
+  -- hints and budget
+  pub record Budget (s : State) (budget : ℕ) (hints : List Set) : Type 0 where
+    -- a budget, then more with the hints that remain, ends as both together do, the numbers added
+    pub split : (more : ℕ) → run t (budget + more) hints s
+        ≡ followedBy (run t budget hints s) (run t more ((run t budget hints s) .left) ((run t budget hints s) .state))
+    -- a budget of 0 on a concluded run gives the verdict
+    pub concluded-at-once : conclusion t s ≢ unfinished → (run t 0 hints s) .standing ≡ conclusion t s
 
   -- a buffer of 2,066 words passes the entry check exactly when it holds a state that meets the conditions, and then one
   pub record Encoding (b : List ℕ) : Type 0 where

@@ -1,10 +1,11 @@
 -- The rules as the slide of document 001 prints them, a constructor for each; to be read beside the slide.
 use Prim.Native.Nat.{ℕ, suc, _+_, _-_, _<_}
 use mathlib.Core.Bool.{true}
+use mathlib.Core.Logic.{_⊎_}
 use mathlib.Core.Path.{_≡_}
 use Rattle.sets.specs.Sets.{Set, member, full, empty, meet, join}
 use Rattle.rules.specs.Table.{Table, f, g}
-use Rattle.rules.specs.Rules.{State, state, put, cut, Rule, Unfold, Candidate, Decide, Conflict}
+use Rattle.rules.specs.Rules.{State, state, put, cut, Rule, Unfold, Candidate, Decide, Conflict, Standing, safe, reached, unfinished}
 
 module _ (t : Table) where
   -- the lattice: sets of states below N
@@ -62,6 +63,23 @@ module _ (t : Table) where
   pub record ConclusiveY (s : State) : Type 0 where
     pub one : s .k ≡ 1
     pub is : t .starts ⋢ s .y 1
+
+  -- x conclusive or y conclusive
+  abbrev pub Conclusive : State → Type 0
+  Conclusive s = ConclusiveX s ⊎ ConclusiveY s
+
+  -- x conclusive at j, and at no smaller place
+  pub record ConclusiveAt (s : State) (j : ℕ) : Type 0 where
+    pub below : suc j < s .n
+    pub is : s .x (suc j) ⊑ s .x j
+    pub first : (i : ℕ) → i < j → s .x (suc i) ⋢ s .x i
+
+  -- how a run stands in a state, in the slide's words: safe where x is conclusive, at the smallest j; reached where y is and x is
+  -- not; unfinished where neither is
+  pub data BySlide (s : State) : Standing → Type 0 where
+    by-x : {j : ℕ} → ConclusiveAt s j → BySlide s (safe j)
+    by-y : (ConclusiveX s → ⊥) → ConclusiveY s → BySlide s reached
+    by-neither : (Conclusive s → ⊥) → BySlide s unfinished
 
   -- a step: x, y not conclusive, and a rule
   pub record Step (s : State) (rule : Rule) (z : Set) (s′ : State) : Type 0 where

@@ -10,7 +10,7 @@ use borrow.Author.Tests.{eq-eqb}
 use lib.Dec.{eqb}
 use lib.ListN.{length, getD, drop, take, length-take, length-drop, List·getD-eq-default}
 use lib.Seq.{sets, drop-at, getD-drop, sets-eq, length-sets}
-use Rattle.answers.specs.Answer.{given}
+use Rattle.answers.specs.Answer.{refused, given}
 use Rattle.rules.proofs.Budget.{run-standing}
 use Rattle.rules.proofs.Buffer.{at-x, at-y, encode-n, encode-k, encode-length}
 use Rattle.rules.proofs.Demands.{demand-2, demand-3}
@@ -23,6 +23,7 @@ use Rattle.rules.specs.Buffer.{encode, decode, entryCheck, Normal}
 use Rattle.rules.specs.Demands.{Passes, Demand2, Demand3, ended-safe, ended-reached}
 use Rattle.rules.specs.Rules.{noRoom, conclusion, due, house, State, Standing, safe, reached, unfinished}
 use Rattle.rules.specs.Runs.{pick, stop, asks, offered, after, willDo, choose, run, Ran}
+use Rattle.rules.specs.Published.{ConclusiveX, ConclusiveY, Conclusive, ConclusiveAt, BySlide, by-x, by-y, by-neither}
 use Rattle.rules.specs.ShownWalk.{shownWalk}
 use Rattle.rules.specs.Table.{Table}
 use Rattle.rules.specs.Walks.{BadReached}
@@ -35,7 +36,7 @@ use Rattle.runs.proofs.Walks.{reached-short}
 use Rattle.runs.specs.Demands.{SaysSafe, SaysReached, Ends, Lent, RunDemand2, RunDemand3, SameVerdict}
 use Rattle.runs.specs.Hints.{hintsAt}
 use Rattle.runs.specs.Promises.{runRefusal, lengthsOk, runAnswer, ran, setAfter, walkAfter, RunPromise}
-use Rattle.runs.specs.Said.{said, safe-with, reached-with}
+use Rattle.runs.specs.Said.{said, safe-with, reached-with, not-ended}
 use Rattle.runs.specs.declared.RunAnswer.{RunAnswer}
 use Rattle.sets.proofs.Members.{proper-length, proper-word, proper-up}
 use Rattle.sets.proofs.Range.{range-says}
@@ -54,12 +55,36 @@ says-safe reached s j e = cc
 says-safe unfinished s j e = cc
 says-safe noRoom s j e = cc
 
+says-open : (r : Standing) (s : State) → runAnswer 0 r s ≡ given not-ended → r ≡ unfinished
+unfolding runAnswer
+says-open (safe j) s e = cc
+says-open reached s e = cc
+says-open unfinished s e = refl
+says-open noRoom s e = cc
+
+-- what the slide says, by how a run stands
+slide-safe : {t : Table} {s : State} {j : ℕ} → BySlide t s (safe j) → ConclusiveAt t s j
+slide-safe (by-x c) = c
+
+slide-reached : {t : Table} {s : State} → BySlide t s reached → (ConclusiveX t s → ⊥) × ConclusiveY t s
+slide-reached (by-y n c) = (n, c)
+
+slide-open : {t : Table} {s : State} → BySlide t s unfinished → Conclusive t s → ⊥
+slide-open (by-neither n) = n
+
 says-reached : (r : Standing) (s : State) (m : ℕ) → runAnswer 0 r s ≡ given (reached-with m) → (r ≡ reached) × (m ≡ s .n - 1)
 unfolding runAnswer
 says-reached (safe i) s m e = let z : _≡_ {A = ℕ} 0 1 = cc in absurd (omega arith)
 says-reached reached s m e = (refl, let q : s .n - 1 ≡ m = cc in sym q)
 says-reached unfinished s m e = let z : _≡_ {A = ℕ} 0 1 = cc in absurd (omega arith)
 says-reached noRoom s m e = let z : _≡_ {A = ℕ} 0 1 = cc in absurd (omega arith)
+
+says-no-refusal : (r : Standing) (s : State) (k : ℕ) → ran 0 r ≡ true → runAnswer 0 r s ≡ refused k → ⊥
+unfolding runAnswer ran
+says-no-refusal (safe j) s k e q = let z : _≡_ {A = ℕ} 0 1 = cc in omega arith
+says-no-refusal reached s k e q = let z : _≡_ {A = ℕ} 0 1 = cc in omega arith
+says-no-refusal unfinished s k e q = let z : _≡_ {A = ℕ} 0 1 = cc in omega arith
+says-no-refusal noRoom s k e q = let z : _≡_ {A = ℕ} 0 1 = cc in omega arith
 
 length-take-most : (m : ℕ) (x : List ℕ) → length (take m x) ≤ m
 length-take-most m x = rw length-take (omega arith)
@@ -103,7 +128,7 @@ lengths-drop a hints set walk set₂ walk₂ e e₁ e₂ =
 
 -- ---- what a run writes
 -- every word of a state's buffer has 64 bits
-encode-words : (t : Table) → t .size ≤ 256 → (s : State) → Invariant t s → Normal (t .size) s → Words64 (encode s)
+pub encode-words : (t : Table) → t .size ≤ 256 → (s : State) → Invariant t s → Normal (t .size) s → Words64 (encode s)
 encode-words t big s v m i = elim (lt-or-ge i 2066) [
   | inl l ↦ at i (place i l)
   | inr l ↦ rw (List·getD-eq-default (encode s) 0 {n = i} (omega (arith, encode-length s))) (omega arith)
@@ -219,12 +244,6 @@ module _ (t : Table) (hints b set walk : List ℕ) (l : Lent t hints b set walk)
     of-ends (inl w) = rw (safe-at-j (w .0) (w .1)) (rules.ended-safe (w .0))
     of-ends (inr w) = rw (reached-in (w .0) (w .1) .0) rules.ended-reached
 
-    two : rules.Demand2 t (decode b) budget (hintsAt hints 0)
-    two = demand-2 t big (decode b) passes budget (hintsAt hints 0)
-
-    three : rules.Demand3 t (decode b) budget (hintsAt hints 0)
-    three = demand-3 t big (decode b) passes budget (hintsAt hints 0)
-
     set-written : (j : ℕ) → o .standing ≡ safe j → set′ ≡ o .state .x j
     unfolding setAfter
     set-written j e = rw (not-refused, e) at (p .set-is)
@@ -245,10 +264,29 @@ module _ (t : Table) (hints b set walk : List ℕ) (l : Lent t hints b set walk)
     pub walk-room : o .standing ≡ reached → length (shownWalk t (o .state)) ≤ length walk
     walk-room e = omega (arith, few e, walk-length t big (o .state), lengths-walk hints set walk (l .lengths))
 
-    shown : (m : ℕ) → SaysReached r m → take m walk′ ≡ shownWalk t (o .state)
-    shown m e =
-        let q = reached-in m e in
-        rw (q .1, walk-written (q .0), ← (walk-length t big (o .state))) (take-sets (shownWalk t (o .state)) walk (walk-room (q .0)))
+    -- the demands of the rules, of what the buffers hold
+    abbrev walked : List ℕ
+    walked = take (o .state .n - 1) walk′
+
+    walked-is : o .standing ≡ reached → walked ≡ shownWalk t (o .state)
+    walked-is e = rw (walk-written e, ← (walk-length t big (o .state))) (take-sets (shownWalk t (o .state)) walk (walk-room e))
+
+    two : rules.Demand2 t (decode b) budget (hintsAt hints 0) o set′ walked
+    two = demand-2 t big (decode b) passes budget (hintsAt hints 0) set′ walked set-written walked-is
+
+    three : rules.Demand3 t (decode b) budget (hintsAt hints 0) o set′ walked
+    three = demand-3 t big (decode b) passes budget (hintsAt hints 0) set′ walked set-written walked-is
+
+    -- how the run says that it stands
+    open-in : said (r .outcome) ≡ given not-ended → o .standing ≡ unfinished
+    open-in e = says-open (o .standing) (o .state) (sym told ∙ e)
+
+    stands-as : {c : Standing} → o .standing ≡ c → BySlide t (decode b′) c
+    stands-as e = rw left-state (rw e at (two .stands))
+
+    in-open : o .standing ≡ unfinished → said (r .outcome) ≡ given not-ended
+    unfolding runAnswer
+    in-open e = rw e at told
 
     -- the set and the walk that a run leaves, and their lengths
     pub set-left : set′ ≡ setAfter 0 (o .standing) (o .state) set
@@ -289,38 +327,54 @@ module _ (t : Table) (hints b set walk : List ℕ) (l : Lent t hints b set walk)
     unfolding runAnswer
     safe-of w = (w .0, rw (w .1) at told)
 
-    pub run-demand-2 : RunDemand2 t hints b b′ set′ walk′ r
+    pub run-demand-2 : RunDemand2 t hints budget b b′ set′ walk′ r
     run-demand-2 =
         record {
+          not-refused = λ w. says-no-refusal (o .standing) (o .state) (w .0) was-run (sym told ∙ w .1);
+          enters = run-enters;
           rules-published = rw (fired, took, uses, left-state, ← left-hints) (two .rules-published);
-          safe-reason = λ w. rw (set-written (w .0) (safe-at-j (w .0) (w .1))) (two .safe-reason (w .0) (safe-at-j (w .0) (w .1)));
-          reached-walk = λ m e. rw (shown m e) (two .reached-walk (reached-in m e .0));
+          safe-there = λ j e.
+              let q = safe-at-j j e in
+              record { conclusive = slide-safe (stands-as q); set-is = rw left-state (set-written j q) };
+          reached-there = λ m e.
+              let (q, n) = reached-in m e in
+              let (no-x, y) = slide-reached (stands-as q) in
+              record { open-x = no-x; conclusive = y; states = rw left-state n; walk-is = rw (left-state, n) (walked-is q) };
+          unfinished-there = λ e.
+              let q = open-in e in
+              record { neither = slide-open (stands-as q); spent = rw fired (two .spent q) };
+          safe-reason = λ w. two .safe-reason (w .0) (safe-at-j (w .0) (w .1));
+          reached-walk = λ m e. let (q, n) = reached-in m e in rw n (two .reached-walk q);
           exactly = λ e. (λ w. two .exactly (of-ends e) .0 (w .0, safe-at-j (w .0) (w .1)), λ h. safe-of (two .exactly (of-ends e) .1 h));
         }
 
-    pub run-demand-3 : RunDemand3 t budget r
+    pub run-demand-3 : RunDemand3 t hints budget b r
     run-demand-3 =
         record {
           ends = λ h. ends-of (three .ends h);
           in-bound = rw fired (three .in-bound);
           in-budget = rw fired (three .in-budget);
-          fewest = λ m e n u w d. let q = reached-in m e in rw (q .1) (rw (walk-length t big (o .state)) at (three .fewest (q .0) n u w d));
+          counted = λ c e. rw (fired, took, uses) (three .counted c (of-ends e));
+          unfinished-exactly = λ c. (λ e. three .unfinished-exactly c .0 (open-in e), λ l. in-open (three .unfinished-exactly c .1 l));
+          fewest = λ m e n u w d.
+              let (q, k) = reached-in m e in
+              rw k (rw (ap length (walked-is q) ∙ walk-length t big (o .state)) at (three .fewest q n u w d));
         }
 
 -- ---- two runs on one table
 module _ (t : Table) (hints hints′ b c set set′ walk walk′ : List ℕ) (l : Lent t hints b set walk) (l′ : Lent t hints′ c set′ walk′) (budget budget′ : ℕ)
     (b₁ s₁ w₁ c₁ s₂ w₂ : List ℕ) (r r′ : answer.RunAnswer)
     (p : RunPromise t hints budget b b₁ set s₁ walk w₁ r) (p′ : RunPromise t hints′ budget′ c c₁ set′ s₂ walk′ w₂ r′) where
-  d2 : RunDemand2 t hints b b₁ s₁ w₁ r
+  d2 : RunDemand2 t hints budget b b₁ s₁ w₁ r
   d2 = run-demand-2 t hints b set walk l budget b₁ s₁ w₁ r p
 
-  d2′ : RunDemand2 t hints′ c c₁ s₂ w₂ r′
+  d2′ : RunDemand2 t hints′ budget′ c c₁ s₂ w₂ r′
   d2′ = run-demand-2 t hints′ c set′ walk′ l′ budget′ c₁ s₂ w₂ r′ p′
 
-  d3 : RunDemand3 t budget r
+  d3 : RunDemand3 t hints budget b r
   d3 = run-demand-3 t hints b set walk l budget b₁ s₁ w₁ r p
 
-  d3′ : RunDemand3 t budget′ r′
+  d3′ : RunDemand3 t hints′ budget′ c r′
   d3′ = run-demand-3 t hints′ c set′ walk′ l′ budget′ c₁ s₂ w₂ r′ p′
 
   pub same-verdict-run : SameVerdict r r′

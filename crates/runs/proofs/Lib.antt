@@ -12,3 +12,7 @@ pub mod Answers
 pub mod Demands
 pub mod Unique
 pub mod Split
+pub mod Fakes
+pub mod Singles
+pub mod Known
+pub mod Meets

@@ -1,4 +1,4 @@
--- What the private functions ask for and hand on. No promise of a public call cites it.
+-- For the crate's own private functions, and no part of what a reader must believe: what they ask for and hand on.
 use Prim.Native.Nat.{ℕ, suc, _+_, _*_, _≤_, _<_}
 use mathlib.Core.Bool.{Bool, true, false}
 use mathlib.Core.List.{List}

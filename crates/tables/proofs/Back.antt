@@ -11,7 +11,8 @@ use lib.Seq.{drop-drop, drop-at}
 use Rattle.tables.specs.Format.{bytes16, Kind, count, state, number, moveEntry, move, Section, states, numbers, moves, Contents}
 use Rattle.tables.specs.Format.{Taken, refusedAt, taken, andThen, entry, entries, section, past, at2, at3, at4, at5, ending, contents}
 use Rattle.tables.specs.Format.{entriesBytes, sectionBytes, fileBytes}
-use Rattle.tables.proofs.Inverse.{Bytes, bytes-drop, Inverse, count-inverse, number-inverse, state-inverse, move-inverse}
+use Rattle.tables.proofs.Inverse.{bytes-drop, Inverse, count-inverse, number-inverse, state-inverse, move-inverse}
+use Rattle.tables.specs.RoundTrip.{Bytes}
 use Rattle.tables.proofs.Sections.{first, neither, Whole}
 use Rattle.tables.proofs.Files.{File, contents-is}
 use Rattle.tables.proofs.Taking.{entry-taken, or-neither}

@@ -21,6 +21,7 @@ use Rattle.turns.proofs.Laws.{within}
 use Rattle.sets.specs.Lists.{tabulate}
 use Rattle.moves.specs.Models.{Control}
 use Rattle.sets.proofs.Lists.{length-tabulate, tabulate-at, tabulate-past, is-tabulate}
+use Rattle.tables.specs.RoundTrip.{Held}
 use Rattle.tables.specs.Lists.{passing, among}
 use Rattle.tables.specs.Format.{signed, unsigned, Kind, state, number, move, Contents}
 use Rattle.tables.specs.Control.{setOfEntries, rowOfEntries, rowsOfEntries, anglesOfEntries, modesOfEntries, controlOf}
@@ -227,12 +228,6 @@ module _ (l : Contents) (g : Good l) where
   }
 
 -- ---- a table that can be written, from its contents
--- sets and rows of 64-bit words, as code holds them
-pub record Held (c : Control) : Type 0 where
-  pub starts : Proper 256 (c .table .starts)
-  pub safe : Proper 256 (c .table .safe)
-  pub rows : (i : ℕ) → getD (c .table .rows) i 0 < 2 ^ 64
-
 module _ (c : Control) (h : Held c) (w : Writable c) where
   abbrev N : ℕ
   N = c .table .size

@@ -6,11 +6,8 @@ use mathlib.Core.Path.{_≡_, refl, sym, ap, ap₂, _∙_}
 use mathlib.Core.List.{List, [], _∷_, _++_}
 use lib.ListN.{length, getD, drop}
 use lib.Seq.{getD-drop}
+use Rattle.tables.specs.RoundTrip.{Bytes}
 use Rattle.tables.specs.Format.{bits16, bytes16, Kind, count, stateEntry, state, number, moveEntry, move}
-
--- every byte is one
-pub record Bytes (b : List ℕ) : Type 0 where
-  pub byte : (i : ℕ) → getD b i 0 < 256
 
 pub bytes-drop : (b : List ℕ) (n : ℕ) → Bytes b → Bytes (drop n b)
 bytes-drop b n h = record { byte = λ i. rw getD-drop (h .byte (n + i)) }

@@ -23,13 +23,14 @@ use Rattle.tables.specs.Control.{rowsOfEntries, controlOf, contentsOf, f
 use Rattle.tables.specs.Said.{Read, Wrote, saidWritten, lengthOf, putIn, ifTaken}
 use Rattle.tables.specs.declared.Reading.{Reading}
 use Rattle.tables.specs.declared.Written.{Written}
-use Rattle.tables.proofs.Inverse.{Bytes}
+use Rattle.tables.specs.RoundTrip.{Bytes, ReadsAs, RoundTrip}
 use Rattle.tables.proofs.Back.{moves-fine, read-good, read-same, written-same}
 use Rattle.tables.proofs.Files.{contents-is}
-use Rattle.tables.proofs.Contents.{Held, moves-back, contents-back, control-back, good-contents, writable-back, angle-past, mode-past}
+use Rattle.tables.proofs.Contents.{moves-back, contents-back, control-back, good-contents, writable-back, angle-past, mode-past}
+use Rattle.tables.specs.RoundTrip.{Held}
 use Rattle.tables.proofs.Putting.{moves-count}
 use Rattle.tables.proofs.Numbered.{taken-is}
-use Rattle.tables.proofs.Writing.{Writable, writable, not-refused, file-length}
+use Rattle.tables.proofs.Writing.{Writable, writable, not-refused, file-length, moves-are}
 
 -- ---- writing, taken apart
 given-is : (c : Control) (room : ℕ) (b : List ℕ) → writing c room ≡ given b → (writeRefusal c room ≡ 0) × (fileOf c ≡ b)
@@ -119,23 +120,13 @@ unfolding fileOf
 written-length c h w = (file-length c, read-length (fileOf c) (contentsOf c) (written-same (contentsOf c) (good-contents c h w)) .1)
 
 -- ---- of the code
--- what `read` answers of a table and leaves in the buffers
-pub record Answers (c : Control) (r : Reading) (rows : List ℕ) (angles : List ℤ) (modes : List ℕ) : Type 0 where
-  pub refusal : r .refusal ≡ 0
-  pub model-size : r .model .size ≡ c .table .size
-  pub starts : r .model .starts .words ≡ c .table .starts
-  pub safe : r .model .safe .words ≡ c .table .safe
-  pub moves : r .moves ≡ length (contentsOf c .moves)
-  pub filled-rows : rows ≡ c .table .rows
-  pub filled-angles : angles ≡ c .angles
-  pub filled-modes : modes ≡ c .modes
-
 module _ {rows : List ℕ} {angles : List ℤ} {modes : List ℕ} {r : Reading} {rows′ : List ℕ} {angles′ : List ℤ} {modes′ : List ℕ} where
   -- what `read` promises of a file that was taken
   read-is : (b : List ℕ) (l : Contents) → reading b rows angles modes ≡ taken l → Read b rows angles modes r rows′ angles′ modes′
-      → (c : Control) → controlOf l ≡ c → length (l .moves) ≡ length (contentsOf c .moves) → Answers c r rows′ angles′ modes′
+      → (c : Control) → controlOf l ≡ c → length (l .moves) ≡ moveCount (c .table .rows) → ReadsAs c r rows′ angles′ modes′
   read-is b l e p c q m = record {
     refusal = p .refusal ∙ rw e;
+    offset = p .offset ∙ rw e;
     model-size = p .model-size ∙ is (λ k. controlOf k .table .size) 0 ∙ ap (λ (x : Control). x .table .size) q;
     starts = p .starts ∙ is (λ k. controlOf k .table .starts) _ ∙ ap (λ (x : Control). x .table .starts) q;
     safe = p .safe ∙ is (λ k. controlOf k .table .safe) _ ∙ ap (λ (x : Control). x .table .safe) q;
@@ -150,11 +141,11 @@ module _ {rows : List ℕ} {angles : List ℤ} {modes : List ℕ} {r : Reading} 
 
   -- what `write` has written, `read` reads back
   pub write-then-read : (c : Control) → Held c → {out : List ℕ} {w : Written} {out′ : List ℕ} → Wrote c out w out′ → (n : ℕ) → saidWritten w ≡ given n
-      → sized rows angles modes ≡ true → Read (take n out′) rows angles modes r rows′ angles′ modes′ → Answers c r rows′ angles′ modes′
+      → sized rows angles modes ≡ true → Read (take n out′) rows angles modes r rows′ angles′ modes′ → ReadsAs c r rows′ angles′ modes′
   unfolding reading
   write-then-read c h {out} {w} {out′} p n e s q = go (writing c (length out)) refl (sym e ∙ p .answer) (p .output)
     where
-      go : (x : Answer (List ℕ)) → writing c (length out) ≡ x → given n ≡ lengthOf x → out′ ≡ putIn x out → Answers c r rows′ angles′ modes′
+      go : (x : Answer (List ℕ)) → writing c (length out) ≡ x → given n ≡ lengthOf x → out′ ≡ putIn x out → ReadsAs c r rows′ angles′ modes′
       go (refused k) f d o = let z : _≡_ {A = ℕ} 0 1 = cc in absurd (omega arith)
       go (given b) f d o =
           let t = written-reads c h (length out) b f in
@@ -162,7 +153,7 @@ module _ {rows : List ℕ} {angles : List ℤ} {modes : List ℕ} {r : Reading} 
           let v : length b ≤ length out = rw (g .1) at (writable c (length out) (g .0) .1) in
           let m : n ≡ length b = cc in
           let a : take n out′ ≡ b = ap (take n) o ∙ rw m (take-sets b out v) in
-          read-is b (contentsOf c) (rw s (t .0)) (rw a at q) c (t .1) refl
+          read-is b (contentsOf c) (rw s (t .0)) (rw a at q) c (t .1) (sym (moves-are c))
 
   module _ (file : List ℕ) (B : Bytes file) (p : Read file rows angles modes r rows′ angles′ modes′) (e : r .refusal ≡ 0) where
     -- the table that `read` answers and leaves in the buffers
@@ -173,13 +164,12 @@ module _ {rows : List ℕ} {angles : List ℤ} {modes : List ℕ} {r : Reading} 
     unfolding reading
     read-contents =
         let (l, s, f) = taken-is file rows angles modes (sym (p .refusal) ∙ e) in
-        let g = contents-back l (read-good file l B f) in
-        (l, f, same l (read-is file l (whole l s f) p (controlOf l) refl (ap (λ (k : Contents). length (k .moves)) (sym g))))
+        (l, f, same l (read-is file l (whole l s f) p (controlOf l) refl (sym (moves-counted file l f))))
       where
         whole : (l : Contents) → sized rows angles modes ≡ true → contents file ≡ taken l → reading file rows angles modes ≡ taken l
         whole l s f = rw s f
 
-        same : (l : Contents) → Answers (controlOf l) r rows′ angles′ modes′ → answered ≡ controlOf l
+        same : (l : Contents) → ReadsAs (controlOf l) r rows′ angles′ modes′ → answered ≡ controlOf l
         same l a = λ i. record {
           table = record { size = a .model-size i; starts = a .starts i; safe = a .safe i; rows = a .filled-rows i };
           angles = a .filled-angles i;
@@ -198,3 +188,11 @@ module _ {rows : List ℕ} {angles : List ℤ} {modes : List ℕ} {r : Reading} 
         let v : writing answered (length out) ≡ given file = rw c (read-writes file B l f (length out) h) in
         let output : out′ ≡ putIn (given file) out = q .output ∙ ap (λ (x : Answer (List ℕ)). putIn x out) v in
         (q .answer ∙ ap lengthOf v, ap (take (length file)) output ∙ take-sets file out h)
+
+-- ---- the round trip
+pub round-trip : RoundTrip
+round-trip =
+    record {
+      write-then-read = λ c out out′ w n rows angles modes r rows′ angles′ modes′ h p e s q. write-then-read c h p n e s q;
+      read-then-write = λ file rows angles modes r rows′ angles′ modes′ out out′ w B p e h q. read-then-write file B p e h q;
+    }

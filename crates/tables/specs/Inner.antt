@@ -1,4 +1,4 @@
--- What the private functions ask for and hand on. It serves them alone and is no part of what a reader must believe.
+-- For the crate's own private functions, and no part of what a reader must believe: what they ask for and hand on.
 use Prim.Native.Nat.{ℕ, suc, _+_, _-_, _*_, _≤_, _<_}
 use mathlib.Core.Bool.{Bool, true}
 use mathlib.Core.List.{List}

@@ -63,7 +63,7 @@ fn count_at(file: &[u8], at: usize, low: usize, high: usize) -> Step
 }
 
 // Past an angle and a mode.
-fn state_at(file: &[u8], at: usize) -> Step
+fn labels_at(file: &[u8], at: usize) -> Step
     ensures { λ r. ⌜ said r ≡ entryStep state (now (file .entry)) at 0 ⌝ }
 {
     if !has(file, at, 3) {
@@ -124,7 +124,7 @@ fn entry_at(file: &[u8], at: usize, section: usize, size: usize, low: usize) -> 
     ensures { λ r. ⌜ said r ≡ entryStep (sectionNumber section size .kind) (now (file .entry)) at low ⌝ }
 {
     if section == 1 {
-        return state_at(file, at);
+        return labels_at(file, at);
     }
     if section == 4 {
         return move_at(file, at, size, low);

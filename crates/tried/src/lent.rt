@@ -8,7 +8,7 @@ use sets::StateSet;
 
 // The places of N, I, P, the lengths of the move table, the run buffer, the set and the walk, those of the angles, the
 // modes and the bytes, and the move table.
-const STATES: usize = 40;
+pub const STATES: usize = 40;
 
 const STARTS: usize = 44;
 

@@ -28,7 +28,7 @@ fn moved(m: SetAnswer) {
 
 // f or g of a set.
 pub fn moves(m: &[u64]) {
-    let n = script::small(at(m, 40));
+    let n = script::small(at(m, lent::STATES));
     let c = at(m, 0);
     match c {
         names::F => moved(moves::f(lent::moves(m), n, StateSet::read(m, 1))),

@@ -1,6 +1,6 @@
 -- `check` meets its contract: the file is read, and its refusal listed or its table searched.
 use borrow.Author.Needs.{needs}
-use Rattle.tables.proofs.Inverse.{Bytes}
+use Rattle.tables.specs.RoundTrip.{Bytes}
 use Rattle.checks.proofs.Readings.{refused-file, read-sought, read-file}
 use Rattle.checks.proofs.check.Statement.{statement}
 use Rattle.checks.proofs.check.Tie as tie

@@ -7,11 +7,11 @@ use Rattle.tables.proofs.entry.signed.Tie as tie
 returns : tie.Need-returns
 returns c = search (signed-lower, needs)
 
-sub-result-2 : tie.Need-sub-result-2
-sub-result-2 c = search (upper-fits, needs)
-
 returns-2 : tie.Need-returns-2
 returns-2 c = search (signed-upper, needs)
+
+sub-result-2 : tie.Need-sub-result-2
+sub-result-2 c = search (upper-fits, needs)
 
 pub signed-spec : {M : Type 1} → statement M
 signed-spec =

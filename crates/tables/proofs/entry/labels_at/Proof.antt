@@ -1,11 +1,11 @@
--- `entry::state_at` meets its contract: cut short, no angle, no mode, or the state.
+-- `entry::labels_at` meets its contract: cut short, no angle, no mode, or the state.
 use borrow.Author.Needs.{needs}
 use native.Mathlib.Omega.{arith}
 use Prim.Native.Nat.{_+_, _≤_}
 use lib.ListN.{length}
 use Rattle.tables.proofs.Taking.{has-room, state-short, state-no-angle, state-no-mode, state-taken}
-use Rattle.tables.proofs.entry.state_at.Statement.{statement}
-use Rattle.tables.proofs.entry.state_at.Tie as tie
+use Rattle.tables.proofs.entry.labels_at.Statement.{statement}
+use Rattle.tables.proofs.entry.labels_at.Tie as tie
 
 -- the file has the entry's bytes
 room : (c : tie.Else1) → c .before .before .before .args .at + 3 ≤ length (c .before .before .before .args .file .now)
@@ -35,8 +35,8 @@ add-t13 c = let h = room (c .before .before .before .before .before .before .bef
 returns-4 : tie.Need-returns-4
 returns-4 c = search (state-taken, needs)
 
-pub state-at-spec : {M : Type 1} → statement M
-state-at-spec =
+pub labels-at-spec : {M : Type 1} → statement M
+labels-at-spec =
     tie.close
     (tie.spec
     (λ c κs. search needs)

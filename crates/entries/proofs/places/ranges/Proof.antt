@@ -1,8 +1,8 @@
--- `in_range` meets its contract: test by test.
+-- `ranges` meets its contract: test by test.
 use borrow.Author.Needs.{needs}
 use Rattle.entries.proofs.Tests.{range-1, range-2, range-3, range-4}
-use Rattle.entries.proofs.places.in_range.Statement.{statement}
-use Rattle.entries.proofs.places.in_range.Tie as tie
+use Rattle.entries.proofs.places.ranges.Statement.{statement}
+use Rattle.entries.proofs.places.ranges.Tie as tie
 
 returns : tie.Need-returns
 returns c = search (range-1, needs)
@@ -16,8 +16,8 @@ returns-3 c = search (range-3, needs)
 returns-4 : tie.Need-returns-4
 returns-4 c = search (range-4, needs)
 
-pub in-range-spec : {M : Type 1} → statement M
-in-range-spec =
+pub ranges-spec : {M : Type 1} → statement M
+ranges-spec =
     tie.close
     (tie.spec
     returns
