@@ -62,12 +62,12 @@ module _ (t : Table) where
   pub open-up : (s : State) → Open s → (j : ℕ) → suc j < s .n → Beyond (t .size) (s .x (suc j)) (s .x j)
   unfolding conclusionOf concludes closes
   open-up s o j lt =
-      go (least (s .n - 1) (closes (t .size) s)) _ (least-is (s .n - 1) (closes (t .size) s)) o
+      go _ _ _ (least-is _ (closes (t .size) s)) o (omega arith)
     where
-      go : (r : Option ℕ) (b : Bool) → Least (s .n - 1) (closes (t .size) s) r → concludes r b ≡ unfinished
+      go : (m : ℕ) (r : Option ℕ) (b : Bool) → Least m (closes (t .size) s) r → concludes r b ≡ unfinished → j < m
           → Beyond (t .size) (s .x (suc j)) (s .x j)
-      go r b (here i l e h) q = let z : _≡_ {A = ℕ} 0 1 = cc in absurd (omega arith)
-      go r b (nowhere h) q = is-beyond (t .size) (s .x (suc j)) (s .x j) (h j (omega arith))
+      go m r b (here i l e h) q _ = let z : _≡_ {A = ℕ} 0 1 = cc in absurd (omega arith)
+      go m r b (nowhere h) q lm = is-beyond (t .size) (s .x (suc j)) (s .x j) (h j lm)
 
   start-tested : (r : Option ℕ) (b : Bool) → concludes r b ≡ unfinished → b ≡ false
   unfolding concludes
