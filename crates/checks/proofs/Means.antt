@@ -9,18 +9,16 @@ use lib.Seq.{drop-at}
 use Rattle.rules.proofs.Demands.{fresh-inv, counts, kept, demand-2, demand-3, shown-bad}
 use Rattle.rules.proofs.Meaning.{closed-safe}
 use Rattle.rules.specs.Demands.{bound, Course, Ended, ended-safe, ended-reached}
-use Rattle.rules.specs.Rules.{fresh, Standing, safe, reached}
+use Rattle.rules.specs.Rules.{fresh, Standing, safe}
 use Rattle.rules.specs.ShownWalk.{shownWalk}
-use Rattle.rules.specs.Walks.{BadReached}
 use Rattle.sets.specs.Sets.{Set}
 use Rattle.moves.specs.Models.{Control}
 use Rattle.tables.proofs.Files.{contents-is}
 use Rattle.tables.specs.Control.{controlOf}
-use Rattle.tables.specs.Format.{Contents, taken, contents}
 use Rattle.listings.specs.Listing.{modelLine, safeLine, membersLine, safeListing, reachedLine, stateLine, reachedListing}
 use Rattle.listings.specs.Text.{appended, text, spaced, parted, line}
 use Rattle.checks.proofs.Ends.{searched-ends}
-use Rattle.checks.specs.Check.{searched, verdictListing, tableListing, checkListing}
+use Rattle.checks.specs.Check.{searched, verdictListing, tableListing}
 use Rattle.checks.specs.File.{readListing, fileListing}
 use Rattle.checks.specs.Means.{ListsSafe, ListsReached, Means, CheckMeans}
 

@@ -12,8 +12,8 @@ use Rattle.tables.specs.Control.{rowsOfEntries, setOfEntries, controlOf}
 use Rattle.tables.specs.Format.{bits16, signed, stateEntry, moveEntry, Contents, taken, andThen, entry, entries, section, past, ending, contents}
 use Rattle.tables.specs.Lists.{among}
 use Rattle.runs.specs.Hints.{hintsFrom}
-use Rattle.rules.specs.Rules.{put, cut, concludes, freshOf, closes, conclusion, conclusionOf, due, allowed, house, fire}
-use Rattle.rules.specs.Runs.{asks, offered, pick, stop, after, willDo, choose, next, lacksRoom, lacksRoomFor, run}
+use Rattle.rules.specs.Rules.{put, cut, concludes, freshOf, closes, conclusionOf, due, allowed, house, fire}
+use Rattle.rules.specs.Runs.{asks, offered, pick, stop, after, willDo, choose, next, lacksRoomFor, run}
 use Rattle.rules.specs.ShownWalk.{orZero, firstState, nextState, walkFrom, shownWalk}
 use Rattle.checks.specs.Tried.{oneWord, B, fileB, tableIn, reasonOf, seen, Rows}
 

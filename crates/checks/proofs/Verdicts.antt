@@ -1,13 +1,13 @@
 -- What `run` answers from a fresh run buffer on a table that was read is listed as the definition says.
 use Prim.Native.Nat.{ℕ, _-_, _≤_}
 use native.Mathlib.Omega.{arith}
-use mathlib.Core.Bool.{true, cond}
+use mathlib.Core.Bool.{cond}
 use mathlib.Core.List.{List, []}
 use mathlib.Core.Path.{_≡_, refl, sym, ap, _∙_}
 use borrow.Author.Tests.{eq-eqb, le-leb}
 use lib.ListN.{length}
 use lib.Seq.{sets, length-sets}
-use Rattle.answers.specs.Answer.{Answer, given, unlessRefused}
+use Rattle.answers.specs.Answer.{given, unlessRefused}
 use Rattle.answers.specs.Refusals.{firstFailing}
 use Rattle.rules.proofs.Buffer.{encode-length}
 use Rattle.rules.proofs.Demands.{fresh-inv}

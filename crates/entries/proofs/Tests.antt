@@ -17,7 +17,7 @@ use Rattle.rules.proofs.Held.{held-by}
 use Rattle.rules.proofs.Reading.{x-is, y-is, n-is, k-is, parts-256, proper-forward, proper-backward}
 use Rattle.rules.proofs.Ready.{Words64, Good, Spans, Shaped}
 use Rattle.rules.specs.Buffer.{decode, each, held, clearX, clearY, unused, soundX, soundY, rises, falls, parts, topped, ranges, entryTests, entryCheck, Normal}
-use Rattle.rules.specs.Table.{Table, f, g}
+use Rattle.rules.specs.Table.{Table, f}
 use Rattle.sets.proofs.Tests.{not-true, not-false}
 use Rattle.sets.proofs.Within.{within-256}
 use Rattle.sets.specs.Sets.{Set, empty, within, sound, quad, Proper}

@@ -14,7 +14,7 @@ use Rattle.sets.specs.Said.{IsFull}
 use Rattle.sets.specs.declared.SetAnswer.{SetAnswer}
 use Rattle.moves.specs.Said.{Answers, moveRefusal}
 use Rattle.moves.specs.declared.Model.{Model}
-use Rattle.moves.specs.Models.{Control, on, control}
+use Rattle.moves.specs.Models.{on, control}
 use Rattle.rules.specs.Table.{table}
 use Rattle.runs.specs.Promises.{RunPromise, SinglePromise}
 use Rattle.runs.specs.Said.{Outcome, saidOne, said as saidRun}

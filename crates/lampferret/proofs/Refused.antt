@@ -11,10 +11,8 @@ use lib.IntN.{ℤ}
 use lib.ListN.{length, drop}
 use Rattle.answers.proofs.Order.{numbersIn, failing-in}
 use Rattle.answers.specs.Answer.{Answer, refused, given, unlessRefused}
-use Rattle.answers.specs.Refusals.{firstFailing, oneOf, alreadyConcluded, noRoom, notAllowed}
-use Rattle.sets.specs.Said.{IsFull}
+use Rattle.answers.specs.Refusals.{oneOf, noRoom}
 use Rattle.sets.specs.Sets.{Set, inRange, sizeRefusal}
-use Rattle.sets.specs.declared.SetAnswer.{SetAnswer}
 use Rattle.turns.specs.Turn.{isAngle, between, turnOf}
 use Rattle.rules.specs.Buffer.{encode, decode}
 use Rattle.rules.specs.Rules as rules
@@ -23,24 +21,20 @@ use Rattle.rules.specs.Runs.{lacksRoom, Ran}
 use Rattle.rules.specs.Single.{Fired, takes, single}
 use Rattle.rules.specs.Table.{Table}
 use Rattle.moves.specs.Models.{Control}
-use Rattle.moves.specs.Said.{Answers, moveRefusal}
+use Rattle.moves.specs.Said.{moveRefusal}
 use Rattle.entries.specs.Refusal.{entryRefusal}
-use Rattle.runs.specs.Promises.{freshRefusal, FreshPromise, singleAnswer, singleBuffer, SinglePromise, runRefusal, runAnswer, ran, setAfter, walkAfter}
-use Rattle.runs.specs.Promises.{Answered, RunPromise}
-use Rattle.runs.specs.Said.{said, saidOne}
-use Rattle.runs.specs.declared.Asked.{Asked}
+use Rattle.runs.specs.Promises.{freshRefusal, singleAnswer, singleBuffer, runRefusal, runAnswer, ran, setAfter, walkAfter}
+use Rattle.runs.specs.Promises.{Answered}
+use Rattle.runs.specs.Said.{said}
 use Rattle.runs.specs.declared.RunAnswer.{RunAnswer}
 use Rattle.tables.proofs.Numbered.{Numbered, off, on, step-numbered, reading-numbered}
-use Rattle.tables.specs.Control.{writeRefusal, writing, fileOf, reading}
+use Rattle.tables.specs.Control.{writeRefusal, writing, reading}
 use Rattle.tables.specs.Format.{sectionNumber, Contents, Taken, refusedAt, taken}
-use Rattle.tables.specs.Said.{sectionStep, numberOf, Read, saidWritten, lengthOf, putIn, Wrote}
+use Rattle.tables.specs.Said.{sectionStep, numberOf, Read, lengthOf, putIn}
 use Rattle.tables.specs.declared.Reading.{Reading}
-use Rattle.tables.specs.declared.Written.{Written}
-use Rattle.listings.specs.Listing.{reachedRefusal, reachedListing, reachedWanted}
-use Rattle.listings.specs.Said.{said as saidListed, answered, written, Lists}
-use Rattle.listings.specs.declared.Listed.{Listed}
-use Rattle.lampferret.specs.Boundary.{kept, refusalOf, placed, inWords, ruleNumber, answerWords, Gives, SetGiven}
-use Rattle.lampferret.specs.Boundary.{SingleGiven, RunGiven, ReadGiven, WriteGiven, ListGiven}
+use Rattle.listings.specs.Listing.{reachedRefusal, reachedWanted}
+use Rattle.listings.specs.Said.{answered, written}
+use Rattle.lampferret.specs.Boundary.{kept, inWords, ruleNumber, Gives}
 use Rattle.lampferret.specs.Refused.{Demand1, Demand1Boundary}
 
 -- ---- what a refusal equals

@@ -5,19 +5,19 @@ use native.Mathlib.Numerals.{add-one}
 use native.Mathlib.Omega.{arith}
 use mathlib.Core.Bool.{Bool, true, false, not, _&&_, _||_, or-false}
 use mathlib.Core.List.{List, [], _∷_}
-use mathlib.Core.Logic.{_⊎_, inl, inr, _≢_}
+use mathlib.Core.Logic.{_⊎_, inl, inr}
 use mathlib.Core.Path.{_≡_, refl, sym, ap, ap₂, _∙_}
 use borrow.Author.Tests.{lt-ltb, eq-eqb, ne-eqb}
 use lib.Bits.{bitOr, or-lt, or-zero-r}
-use lib.Dec.{ltb, eqb}
+use lib.Dec.{ltb}
 use lib.Pow.{pow-lt}
 use lib.Seq.{sets}
 use Rattle.moves.specs.Wide.{forward256, backward256, endsIn}
 use Rattle.rules.specs.Table.{Table, row, leads, soundRow, soundRows, soundTable, moveCount, withMove, forward, backward}
-use Rattle.sets.proofs.Members.{member-of, member-past, set-ext, set-pad, member-empty, proper-of, proper-empty, proper-ext, proper-up}
+use Rattle.sets.proofs.Members.{member-of, set-ext, set-pad, member-empty, proper-of, proper-empty, proper-ext}
 use Rattle.sets.proofs.Count.{count-max}
 use Rattle.sets.proofs.Search.{any-says, all-says, any-suc, all-stop, sum-max}
-use Rattle.sets.proofs.Tests.{passed, passes, fails, clash, and-true, not-true, not-false, implies, implied, eqb-says, leb-says, lt-or-ge, same-or}
+use Rattle.sets.proofs.Tests.{passed, passes, fails, clash, and-true, not-true, not-false, implies, implied, leb-says, lt-or-ge}
 use Rattle.sets.proofs.Tests.{Says, pass, fail}
 use Rattle.sets.specs.Search.{least, found, any, all, sum}
 use Rattle.sets.proofs.Bits.{bit-or, bit-power, pack-of, pack-lt, pack-out, pack-pad, bit-pack}

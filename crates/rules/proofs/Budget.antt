@@ -1,5 +1,5 @@
 -- What a run leaves and counts, and budgets: b rules, then c rules more.
-use Prim.Native.Nat.{ℕ, zero, suc, _+_, _≤_}
+use Prim.Native.Nat.{ℕ, _+_, _≤_}
 use native.Mathlib.Nat.{zero-add, add-assoc, suc-add}
 use native.Mathlib.Omega.{arith}
 use mathlib.Core.List.{List}

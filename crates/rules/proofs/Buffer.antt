@@ -1,15 +1,14 @@
 -- The words of a state: where each set stands, and that they hold the state they were made of.
-use Prim.Native.Nat.{ℕ, zero, suc, _+_, _*_, _≤_, _<_, _/_, _%_}
+use Prim.Native.Nat.{ℕ, suc, _+_, _*_, _≤_, _<_, _/_, _%_}
 use native.Mathlib.Omega.{arith}
 use mathlib.Core.Bool.{Bool, _&&_, cond}
 use mathlib.Core.List.{[], _∷_}
-use mathlib.Core.Path.{_≡_, refl, sym, ap, _∙_, fun-ext}
+use mathlib.Core.Path.{_≡_, refl, sym, _∙_, fun-ext}
 use lib.Dec.{ltb, leb}
 use lib.ListN.{length, getD, length-append, List·getD-append}
 use lib.Seq.{getD-append-add}
 use Rattle.rules.specs.Buffer.{flat, encode, decode, Normal}
 use Rattle.rules.specs.Rules.{State}
-use Rattle.rules.specs.Table.{Table}
 use Rattle.sets.proofs.Lists.{length-tabulate, tabulate-at}
 use Rattle.sets.proofs.Members.{proper-length}
 use Rattle.sets.proofs.Tests.{leb-says, Says, pass, fail}

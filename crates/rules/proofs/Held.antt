@@ -2,7 +2,7 @@
 use Prim.Native.Nat.{ℕ, zero, suc, _+_, _-_, _*_, _≤_, _<_, _/_, _%_, _^_}
 use native.Mathlib.Omega.{arith}
 use mathlib.Core.Bool.{Bool, true, false, _&&_, _||_, cond, true≢false, and-false}
-use mathlib.Core.List.{List, _∷_}
+use mathlib.Core.List.{List}
 use mathlib.Core.Logic.{inl, inr}
 use mathlib.Core.Path.{_≡_, refl, sym, ap, _∙_}
 use borrow.Author.Tests.{le-ltb, lt-leb, ltb-true}
@@ -19,7 +19,6 @@ use Rattle.sets.proofs.Members.{proper-four, proper-empty, proper-past, proper-
 use Rattle.sets.proofs.Search.{all-says}
 use Rattle.sets.proofs.Tests.{passed, failed, passes, which, and-true, implies, leb-says, lt-or-ge, Says, pass, fail}
 use Rattle.sets.proofs.Words.{quad-at}
-use Rattle.sets.specs.Search.{all}
 use Rattle.sets.specs.Sets.{Set, member, pack, wordOf, setOf, empty, sound, quad, Proper}
 
 -- the buffer is the words of the state that it holds

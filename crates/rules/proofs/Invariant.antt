@@ -11,7 +11,6 @@ use Rattle.rules.specs.Table.{f, g, Table}
 use Rattle.sets.proofs.Search.{least-is, Least, here, nowhere}
 use Rattle.sets.proofs.Tests.{passes, fails, not-false, eqb-says, leb-says}
 use Rattle.sets.proofs.Within.{is-within, is-beyond, Within, Beyond}
-use Rattle.sets.specs.Search.{least}
 use Rattle.sets.specs.Sets.{Set, empty, meet}
 
 -- one place put, the others kept

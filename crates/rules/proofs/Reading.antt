@@ -2,10 +2,9 @@
 --
 -- Four words hold 256 places, so the code's tests are the definitions at 256. `..-256` take them to N, for sets with no members from N up.
 use Prim.Native.Nat.{ℕ, suc, _+_, _-_, _*_, _≤_, _<_}
-use native.Mathlib.Omega.{arith}
-use mathlib.Core.Bool.{Bool, true, false, not, _&&_}
+use mathlib.Core.Bool.{Bool, not, _&&_}
 use mathlib.Core.List.{List}
-use mathlib.Core.Path.{_≡_, refl, sym, ap, ap₂, _∙_, fun-ext}
+use mathlib.Core.Path.{_≡_, refl, ap, ap₂, fun-ext}
 use borrow.Author.Tests.{lt-ltb, le-leb}
 use lib.Dec.{eqb, leb}
 use lib.ListN.{getD}
@@ -15,7 +14,7 @@ use Rattle.rules.specs.Table.{forward, backward}
 use Rattle.sets.proofs.Members.{proper-of}
 use Rattle.sets.proofs.Within.{within-256, meet-256}
 use Rattle.sets.specs.Search.{least}
-use Rattle.sets.specs.Sets.{Set, empty, within, meet, quad, Proper}
+use Rattle.sets.specs.Sets.{Set, empty, quad, Proper}
 use mathlib.Core.Bool.{cond}
 
 module _ (b : List ℕ) where

@@ -1,9 +1,8 @@
 -- What code over a run buffer may rely on: the records that the contracts of private functions cite, and how they are come by.
-use Prim.Native.Nat.{ℕ, _+_, _≤_, _<_, _^_}
-use native.Mathlib.Omega.{arith}
+use Prim.Native.Nat.{ℕ, _≤_, _<_, _^_}
 use mathlib.Core.Bool.{true}
 use mathlib.Core.List.{List}
-use mathlib.Core.Path.{_≡_, refl, sym, ap, _∙_}
+use mathlib.Core.Path.{_≡_, sym, ap, _∙_}
 use lib.ListN.{length, getD}
 use Rattle.rules.proofs.Buffer.{encode-length}
 use Rattle.rules.proofs.Held.{Fit}

@@ -3,17 +3,17 @@ use Prim.Native.Nat.{ℕ, zero, suc, _+_, _-_, _*_, _≤_, _<_, _/_}
 use native.Mathlib.Omega.{arith}
 use mathlib.Core.Bool.{Bool, true, false, not}
 use mathlib.Core.List.{List, [], _∷_}
-use mathlib.Core.Path.{_≡_, refl, sym, ap, _∙_}
-use lib.ListN.{length, getD}
+use mathlib.Core.Path.{_≡_, sym, ap, _∙_}
+use lib.ListN.{length}
 use Rattle.rules.proofs.Normal.{Words}
 use Rattle.rules.proofs.Ready.{Words64}
 use Rattle.rules.specs.Buffer.{decode}
-use Rattle.rules.specs.Rules.{due, house}
+use Rattle.rules.specs.Rules.{due}
 use Rattle.rules.specs.Runs.{pick, asks, offered, willDo, choose}
 use Rattle.rules.specs.Single.{takes}
 use Rattle.rules.specs.Table.{Table}
 use Rattle.runs.proofs.Enums.{due-as}
-use Rattle.runs.specs.Hints.{hintsFrom, hintsAt, chosen}
+use Rattle.runs.specs.Hints.{hintsFrom, hintsAt}
 use Rattle.runs.specs.Inner.{IsDue, IsHouse, Chose}
 use Rattle.runs.specs.Said.{asRule}
 use Rattle.runs.specs.declared.Rule as code

@@ -28,7 +28,7 @@ use Rattle.rules.specs.ShownWalk.{shownWalk}
 use Rattle.rules.specs.Table.{Table}
 use Rattle.rules.specs.Walks.{BadReached}
 use Rattle.answers.specs.Refusals.{firstFailing}
-use Rattle.rules.proofs.Ready.{Words64, Good, Ready, good-by, ready-by}
+use Rattle.rules.proofs.Ready.{Words64, Good, good-by, ready-by}
 use Rattle.runs.proofs.Answers.{left-ready, left-back, ran-all, lengths-set, lengths-walk}
 use Rattle.runs.proofs.Choices.{hints-none, hints-same, hints-more}
 use Rattle.runs.proofs.Stores.{place, Place, first, second, inX, inY}

@@ -1,11 +1,11 @@
 -- The fakes of specs/Fakes.antt, each refuted.
-use Prim.Native.Nat.{ℕ, suc, _+_, _≤_, _<_}
+use Prim.Native.Nat.{ℕ}
 use native.Mathlib.Omega.{arith}
-use mathlib.Core.List.{List, [], _∷_}
+use mathlib.Core.List.{List}
 use mathlib.Core.Logic.{_⊎_, inl, inr}
 use mathlib.Core.Path.{_≡_, refl, sym, ap, _∙_}
 use lib.ListN.{getD}
-use Rattle.answers.specs.Answer.{Answer, refused, given}
+use Rattle.answers.specs.Answer.{refused, given}
 use Rattle.rules.proofs.Ends.{weight}
 use Rattle.rules.proofs.Published.{lighter}
 use Rattle.rules.specs.Buffer.{decode}
@@ -13,9 +13,9 @@ use Rattle.rules.specs.Published.{Conclusive}
 use Rattle.rules.specs.Table.{Table}
 use Rattle.rules.specs.Walks.{LeadsToBad, RealWalk, arrived, onward}
 use Rattle.runs.proofs.Demands.{big, fit}
-use Rattle.runs.specs.Demands.{Refuses, SaysSafe, SaysReached, Ends, RunDemand2}
+use Rattle.runs.specs.Demands.{Refuses, Ends, RunDemand2}
 use Rattle.runs.specs.Fakes.{Fakes, StoredWalk}
-use Rattle.runs.specs.Said.{Outcome, safe-with, reached-with, not-ended, said}
+use Rattle.runs.specs.Said.{Outcome, not-ended, said}
 use Rattle.runs.specs.declared.Outcome as outcome
 use Rattle.runs.specs.declared.RunAnswer.{RunAnswer}
 

@@ -3,7 +3,7 @@ use Prim.Native.Nat.{ℕ, zero, suc, _≤_}
 use native.Mathlib.Omega.{arith}
 use mathlib.Core.Bool.{true}
 use mathlib.Core.List.{List}
-use mathlib.Core.Path.{_≡_, refl, sym, _∙_}
+use mathlib.Core.Path.{_≡_, refl, sym}
 use borrow.Author.Tests.{eq-eqb}
 use lib.ListN.{length}
 use Rattle.answers.proofs.Order.{none-failing}
@@ -17,9 +17,9 @@ use Rattle.rules.specs.Buffer.{encode}
 use Rattle.rules.specs.Rules.{fresh}
 use Rattle.rules.specs.Runs.{Ran}
 use Rattle.rules.specs.Table.{Table, soundTable}
-use Rattle.runs.proofs.Demands.{encode-words, run-demand-2, run-demand-3, same-verdict-run}
+use Rattle.runs.proofs.Demands.{encode-words, run-demand-2, run-demand-3}
 use Rattle.runs.proofs.Split.{fresh-enters}
-use Rattle.runs.specs.Demands.{Lent, Known, Refuses, RunDemand2, RunDemand3, SameVerdict}
+use Rattle.runs.specs.Demands.{Lent, Known, RunDemand2, RunDemand3}
 use Rattle.runs.specs.Promises.{lengthsOk, runRefusal, runAnswer, freshRefusal, FreshPromise, RunPromise, Answered}
 use Rattle.runs.specs.declared.RunAnswer.{RunAnswer}
 use Rattle.sets.proofs.Range.{range-says}

@@ -9,7 +9,7 @@ use mathlib.Core.Path.{_≡_, sym, ap, _∙_}
 use Rattle.rules.proofs.Ends.{run-none, run-done, run-open}
 use Rattle.rules.proofs.Invariant.{Open}
 use Rattle.rules.proofs.Ready.{Words64, Ready}
-use Rattle.rules.specs.Buffer.{encode, decode}
+use Rattle.rules.specs.Buffer.{decode}
 use Rattle.rules.specs.Rules.{conclusion, conclusionOf, unfinished}
 use Rattle.rules.specs.Runs as runs
 use Rattle.rules.specs.Runs.{stop, after, choose, next, run, lacksRoomFor, Choice}

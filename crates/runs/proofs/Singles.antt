@@ -6,16 +6,14 @@ use mathlib.Core.List.{List}
 use mathlib.Core.Path.{_≡_, refl, sym, ap, _∙_}
 use Rattle.answers.specs.Answer.{Answer, refused, given}
 use Rattle.entries.proofs.Entered.{enters}
-use Rattle.entries.specs.Refusal.{entryRefusal}
 use Rattle.rules.proofs.Held.{held-back, kept-accepts}
 use Rattle.rules.proofs.Invariant.{Invariant}
 use Rattle.rules.proofs.Keep as keeping
 use Rattle.rules.proofs.Keep.{due-is, allowed-ok, keep}
 use Rattle.rules.proofs.Normal.{fire-normal}
 use Rattle.rules.proofs.Published.{is-step}
-use Rattle.rules.proofs.Ready.{Words64, Ready}
+use Rattle.rules.proofs.Ready.{Words64}
 use Rattle.rules.specs.Buffer.{encode, decode, Normal}
-use Rattle.rules.specs.Published.{Step}
 use Rattle.rules.specs.Rules.{conclusion, due, allowed, fire, State, Standing, safe, reached, unfinished, noRoom, Rule, Unfold, Candidate, Decide, Conflict}
 use Rattle.rules.specs.Runs.{asks, willDo, lacksRoom}
 use Rattle.rules.specs.Single.{Fired, takes, single}

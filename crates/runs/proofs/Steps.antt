@@ -1,9 +1,9 @@
 -- One rule fired: the buffer after it, and what it can be relied on for again.
-use Prim.Native.Nat.{ℕ, _+_, _≤_, _<_}
+use Prim.Native.Nat.{ℕ, _≤_, _<_}
 use native.Mathlib.Omega.{arith}
 use mathlib.Core.Bool.{Bool, true, false}
 use mathlib.Core.List.{List, [], _∷_}
-use mathlib.Core.Path.{_≡_, refl, sym, ap, _∙_}
+use mathlib.Core.Path.{_≡_, sym, ap, _∙_}
 use lib.ListN.{getD}
 use Rattle.rules.proofs.Ends.{next-inv, has-room}
 use Rattle.rules.proofs.Held.{held-back, fit-of}
@@ -13,14 +13,14 @@ use Rattle.rules.proofs.Normal.{Words, next-normal}
 use Rattle.rules.proofs.Reading.{conflict-256, n-is}
 use Rattle.rules.proofs.Ready.{Ready, ready-by, ready-holds}
 use Rattle.rules.specs.Buffer.{encode, decode, Normal}
-use Rattle.rules.specs.Rules.{State, due, fire, afterUnfold, afterCandidate, afterDecide, afterConflict, house}
+use Rattle.rules.specs.Rules.{due, fire, afterUnfold, afterCandidate, afterDecide, afterConflict, house}
 use Rattle.rules.specs.Runs as runs
-use Rattle.rules.specs.Runs.{choose, next, pick, offered, asks, willDo, lacksRoom, lacksRoomFor}
+use Rattle.rules.specs.Runs.{choose, next, pick, offered, asks, willDo, lacksRoomFor}
 use Rattle.rules.specs.Table.{Table}
 use Rattle.runs.proofs.Closing.{climbs-by}
 use Rattle.runs.proofs.Enums.{due-as}
 use Rattle.runs.proofs.Tested.{conflict-held}
-use Rattle.runs.specs.Hints.{hintsAt, chosen}
+use Rattle.runs.specs.Hints.{hintsAt}
 use Rattle.runs.specs.Inner.{IsDue, Fireable, Chose, Closing, Stepped}
 use Rattle.runs.specs.Said.{asRule}
 use Rattle.runs.specs.declared.Rule as code

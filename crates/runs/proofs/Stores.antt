@@ -14,7 +14,7 @@ use Rattle.rules.proofs.Buffer.{at-x, at-y, encode-n, encode-k, encode-length}
 use Rattle.rules.proofs.Invariant.{put-same, put-other, cut-low, cut-high}
 use Rattle.rules.specs.Buffer.{encode, decode}
 use Rattle.rules.proofs.Reading.{n-is, k-is}
-use Rattle.rules.proofs.Ready.{Spans, Holds}
+use Rattle.rules.proofs.Ready.{Holds}
 use Rattle.runs.specs.Inner.{Untouched}
 use Rattle.sets.proofs.Members.{proper-length, proper-of}
 use Rattle.rules.specs.Rules.{put, cut, afterUnfold, afterCandidate, afterDecide, afterConflict, State}

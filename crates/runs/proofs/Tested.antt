@@ -4,11 +4,11 @@
 -- `if !test {`, and `x ≡ quad b at` is a set that was read. So a proof cites the law, and `search` finds the premises.
 use Prim.Native.Nat.{ℕ, suc, _+_, _-_, _*_, _≤_, _<_}
 use native.Mathlib.Omega.{arith}
-use mathlib.Core.Bool.{Bool, true, false, not, _&&_}
+use mathlib.Core.Bool.{Bool, true, false, not}
 use mathlib.Core.List.{List, [], _∷_}
 use mathlib.Core.Logic.{_⊎_, inl, inr, _≢_}
-use mathlib.Core.Option.{Option, none, some}
-use mathlib.Core.Path.{_≡_, refl, sym, ap, ap₂, _∙_}
+use mathlib.Core.Option.{none}
+use mathlib.Core.Path.{_≡_, refl, sym, ap, _∙_}
 use borrow.Author.Tests.{eq-eqb, ne-eqb}
 use lib.Dec.{eqb}
 use lib.ListN.{getD}
@@ -20,7 +20,7 @@ use Rattle.rules.proofs.Reading.{x-is, y-is, n-is, k-is, separates-256, proper-
 use Rattle.rules.proofs.Ready.{Good, Spans, Ready}
 use Rattle.rules.specs.Buffer.{decode, Normal}
 use Rattle.rules.specs.Rules as rules
-use Rattle.rules.specs.Rules.{State, safe, reached, unfinished, closes, concludes, conclusionOf, due, allowed, house, separates, blocks}
+use Rattle.rules.specs.Rules.{State, safe, closes, concludes, conclusionOf, due, allowed, house, separates, blocks}
 use Rattle.rules.specs.Runs.{willDo}
 use Rattle.rules.specs.Table.{Table, f, g}
 use Rattle.runs.proofs.Enums.{due-as}

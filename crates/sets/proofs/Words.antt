@@ -8,7 +8,7 @@ use mathlib.Core.Logic.{_⊎_, inl, inr, _≢_}
 use mathlib.Core.Bool.{Bool, true, false, not, _&&_, _||_, or-false}
 use mathlib.Core.List.{List, [], _∷_}
 use mathlib.Core.Option.{some, none}
-use borrow.Author.Tests.{eq-eqb, ne-eqb, eqb-true}
+use borrow.Author.Tests.{eq-eqb, ne-eqb}
 use lib.Bits.{bitAnd, bitOr, and-lt, or-lt, and-mask, and-le-r, or-add-and, or-comm}
 use lib.Count.{ones, trailingZeros}
 use lib.Dec.{eqb, lit<}
@@ -23,8 +23,8 @@ use Rattle.sets.proofs.Bits.{bit-and, bit-or, bit-zero, bit-not, bit-sh
 use Rattle.sets.proofs.Members.{proper-four, proper-of, proper-ext, proper-empty, proper-length, proper-word, member-of, member-empty}
 use Rattle.sets.proofs.Members.{member-minus, member-word, set-ext}
 use Rattle.sets.proofs.Search.{here, nowhere, least-of, sum-add, sum-ext}
-use Rattle.sets.proofs.Tests.{Says, pass, fail, and-true, clash, which, eqb-says, lt-or-ge, same-or}
-use Rattle.sets.proofs.Within.{Within, Beyond, within-says, not-both}
+use Rattle.sets.proofs.Tests.{Says, pass, fail, clash, eqb-says, lt-or-ge, same-or}
+use Rattle.sets.proofs.Within.{Within, Beyond, within-says}
 
 -- ---- four words
 pub four-of : (x : Set) → length x ≡ 4 → x ≡ getD x 0 0 ∷ getD x 1 0 ∷ getD x 2 0 ∷ getD x 3 0 ∷ []

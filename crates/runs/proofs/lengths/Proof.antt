@@ -1,5 +1,4 @@
 -- `lengths` meets its contract: test by test.
-use borrow.Author.Needs.{needs}
 use borrow.Author.Tests.{eq-eqb, ne-eqb}
 use Rattle.runs.specs.Promises.{lengthsOk}
 use Rattle.runs.proofs.lengths.Statement.{statement}
