@@ -1,4 +1,4 @@
-/* The calls of liblampferret.a, one for each call of document 01.
+/* The calls of liblampferret.a, one for each call of documents 01 and 02.
  *
  * A set of states is four words: state s is bit s % 64 of word s / 64. Any other buffer is a place and its length in elements.
  * Each call that can refuse answers the refusal's number (docs/REFUSALS.md), 0 for none. Where it refuses, every lent place is
@@ -18,7 +18,7 @@ extern "C" {
 
 enum {
     LAMPFERRET_RUN_WORDS = 2066,
-    LAMPFERRET_MOVES_WORDS = 1024,
+    LAMPFERRET_MOVES_WORDS = 1024, /* the length of the move table and of the second table */
     LAMPFERRET_STATES = 256, /* the length of the angles, the modes and the walk */
     LAMPFERRET_FILE_BYTES = 18184, /* the longest file */
     LAMPFERRET_LISTING_BYTES = 5424, /* no listing has more */
@@ -46,6 +46,24 @@ uint8_t lampferret_turn(int16_t a, int16_t b, int16_t *turn);
 /* f(x) and g(x). Refused with 7, 2, 13. */
 uint8_t lampferret_f(const uint64_t *moves, size_t moves_length, uint16_t size, const uint64_t x[4], uint64_t result[4]);
 uint8_t lampferret_g(const uint64_t *moves, size_t moves_length, uint16_t size, const uint64_t x[4], uint64_t result[4]);
+
+/* The second table of a move table: row t holds the states with a move to t. Refused with 7, 2, 13. */
+uint8_t lampferret_second(const uint64_t *moves, size_t moves_length, uint16_t size, uint64_t *second,
+                          size_t second_length);
+
+/* The states with a move to a state. Refused with 7, 2, 13, 14, 4. */
+uint8_t lampferret_into(const uint64_t *moves, size_t moves_length, const uint64_t *second, size_t second_length,
+                        uint16_t size, uint16_t state, uint64_t result[4]);
+
+/* A move added or removed, in both tables. Refused with 7, 2, 13, 14, 4, 15. */
+uint8_t lampferret_add(uint64_t *moves, size_t moves_length, uint64_t *second, size_t second_length, uint16_t size,
+                       uint16_t from, uint16_t to);
+uint8_t lampferret_remove(uint64_t *moves, size_t moves_length, uint64_t *second, size_t second_length, uint16_t size,
+                          uint16_t from, uint16_t to);
+
+/* g(x), worked out from the second table. Refused with 7, 2, 13, 14. */
+uint8_t lampferret_g_by_second(const uint64_t *moves, size_t moves_length, const uint64_t *second,
+                               size_t second_length, uint16_t size, const uint64_t x[4], uint64_t result[4]);
 
 /* A fresh run buffer. Refused with 7, 2. */
 uint8_t lampferret_fresh(uint16_t size, uint64_t *run, size_t run_length);

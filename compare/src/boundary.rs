@@ -1,6 +1,6 @@
 //! The calls of include/lampferret.h, and each of them on lent places.
 
-use crate::lent::{Lent, LentStates, LentTable};
+use crate::lent::{Lent, LentBoth, LentStates, LentTable};
 
 extern "C" {
     fn lampferret_full(n: u16, set: *mut u64) -> u8;
@@ -84,6 +84,49 @@ extern "C" {
         out: *mut u8,
         out_length: usize,
         length: *mut usize,
+    ) -> u8;
+    fn lampferret_second(
+        moves: *const u64,
+        moves_length: usize,
+        n: u16,
+        second: *mut u64,
+        second_length: usize,
+    ) -> u8;
+    fn lampferret_into(
+        moves: *const u64,
+        moves_length: usize,
+        second: *const u64,
+        second_length: usize,
+        n: u16,
+        state: u16,
+        result: *mut u64,
+    ) -> u8;
+    fn lampferret_add(
+        moves: *mut u64,
+        moves_length: usize,
+        second: *mut u64,
+        second_length: usize,
+        n: u16,
+        from: u16,
+        to: u16,
+    ) -> u8;
+    fn lampferret_remove(
+        moves: *mut u64,
+        moves_length: usize,
+        second: *mut u64,
+        second_length: usize,
+        n: u16,
+        from: u16,
+        to: u16,
+    ) -> u8;
+    fn lampferret_g_by_second(
+        moves: *const u64,
+        moves_length: usize,
+        second: *const u64,
+        second_length: usize,
+        n: u16,
+        x: *const u64,
+        result: *mut u64,
     ) -> u8;
 }
 
@@ -227,6 +270,74 @@ pub fn check(file: &mut Lent<u8>, to: &mut Output) -> u8 {
             to.out.place(),
             to.out.length(),
             to.length.place(),
+        )
+    }
+}
+
+pub fn second(both: &mut LentBoth) -> u8 {
+    unsafe {
+        lampferret_second(
+            both.moves.place(),
+            both.moves.length(),
+            both.n,
+            both.second.place(),
+            both.second.length(),
+        )
+    }
+}
+
+pub fn into(both: &mut LentBoth, state: u16, result: &mut Lent<u64>) -> u8 {
+    unsafe {
+        lampferret_into(
+            both.moves.place(),
+            both.moves.length(),
+            both.second.place(),
+            both.second.length(),
+            both.n,
+            state,
+            result.place(),
+        )
+    }
+}
+
+pub fn add(both: &mut LentBoth, from: u16, to: u16) -> u8 {
+    unsafe {
+        lampferret_add(
+            both.moves.place(),
+            both.moves.length(),
+            both.second.place(),
+            both.second.length(),
+            both.n,
+            from,
+            to,
+        )
+    }
+}
+
+pub fn remove(both: &mut LentBoth, from: u16, to: u16) -> u8 {
+    unsafe {
+        lampferret_remove(
+            both.moves.place(),
+            both.moves.length(),
+            both.second.place(),
+            both.second.length(),
+            both.n,
+            from,
+            to,
+        )
+    }
+}
+
+pub fn g_by_second(both: &mut LentBoth, x: &mut Lent<u64>, result: &mut Lent<u64>) -> u8 {
+    unsafe {
+        lampferret_g_by_second(
+            both.moves.place(),
+            both.moves.length(),
+            both.second.place(),
+            both.second.length(),
+            both.n,
+            x.place(),
+            result.place(),
         )
     }
 }

@@ -131,6 +131,84 @@ pub fn complete(n: usize) -> Model {
     model
 }
 
+// ---------------------------------------------------------- both tables
+
+/// A move table and its second table.
+#[derive(Clone, PartialEq)]
+pub struct Both {
+    pub n: u16,
+    pub moves: Vec<u64>,
+    pub second: Vec<u64>,
+}
+
+impl Both {
+    /// The model's moves and a second table that agrees with them.
+    pub fn of(model: &Model) -> Both {
+        Both {
+            n: model.n,
+            moves: model.moves.clone(),
+            second: model.second(),
+        }
+    }
+
+    /// The same, but the model may be damaged, the second table may disagree and the lengths may be wrong, so that
+    /// several refusals may be due at once.
+    pub fn spoiled(random: &mut Random, model: &Model) -> Both {
+        let mut lent = model.clone();
+        match random.below(8) {
+            0 => lent.n = random.one_of(&[0, 257, 258, 512, 65535]),
+            1 => lent.add_move(
+                random.below(PLACES),
+                random.between(model.states().min(255), 255),
+            ),
+            2 => lent = make::damaged_model(random, model),
+            _ => {}
+        }
+        let mut both = Both::of(&lent);
+        match random.below(8) {
+            0..=3 => both.second = make::disagreeing_second(random, &lent),
+            4 => both.second = model.second(),
+            _ => {}
+        }
+        if random.chance(1, 10) {
+            other_length(random, &mut both.moves);
+        }
+        if random.chance(1, 10) {
+            other_length(random, &mut both.second);
+        }
+        both
+    }
+
+    /// Of two tables of 1,024 words.
+    pub fn has_move(&self, from: u16, to: u16) -> bool {
+        let (from, to) = (usize::from(from), usize::from(to));
+        (self.moves[4 * from + to / 64] >> (to % 64)) & 1 == 1
+    }
+}
+
+/// The state number of a call: most often one below N, else N or more or anything.
+pub fn state_number(random: &mut Random, n: u16) -> u16 {
+    let below = random.below(usize::from(n)) as u16;
+    match random.below(16) {
+        0 | 1 => random.one_of(&[n, 255, 256, 65535]),
+        2 => random.word() as u16,
+        3 => n - 1,
+        _ => below,
+    }
+}
+
+/// Two states of a sound model, about as often with a move from the one to the other as without.
+pub fn two_states(random: &mut Random, model: &Model) -> (u16, u16) {
+    let pairs = model.pairs();
+    let (from, to) = if random.chance(1, 2) && !pairs.is_empty() {
+        random.one_of(&pairs)
+    } else {
+        let states = model.states();
+        (random.below(states), random.below(states))
+    };
+    (from as u16, to as u16)
+}
+
 // ---------------------------------------------------------------- runs
 
 /// A table, a run that passes its entry check, and the run buffer to lend.

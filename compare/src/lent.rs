@@ -1,5 +1,6 @@
 //! Places lent over the boundary. Each lies in the middle of a larger one, between guards that no call may touch.
 
+use crate::given::Both;
 use crate::Agreed;
 use independent::make::Model;
 use independent::random::Random;
@@ -129,5 +130,27 @@ impl LentStates {
     pub fn holds(&self, model: &Model) -> Agreed<()> {
         self.angles.holds("angles", &model.angles)?;
         self.modes.holds("modes", &model.modes)
+    }
+}
+
+/// A move table and its second table.
+pub struct LentBoth {
+    pub n: u16,
+    pub moves: Lent<u64>,
+    pub second: Lent<u64>,
+}
+
+impl LentBoth {
+    pub fn of(both: &Both) -> LentBoth {
+        LentBoth {
+            n: both.n,
+            moves: Lent::of(&both.moves),
+            second: Lent::of(&both.second),
+        }
+    }
+
+    pub fn holds(&self, both: &Both) -> Agreed<()> {
+        self.moves.holds("moves", &both.moves)?;
+        self.second.holds("second", &both.second)
     }
 }

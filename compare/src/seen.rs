@@ -4,7 +4,7 @@
 const ENOUGH: u64 = 100_000;
 
 /// Each call with the outcomes that can come, refusals by number: 11 never does.
-const CALLS: [(&str, &str); 12] = [
+const CALLS: [(&str, &str); 17] = [
     ("full", "done, 2"),
     ("count", "done"),
     ("smallest", "member, none"),
@@ -20,10 +20,15 @@ const CALLS: [(&str, &str); 12] = [
     ("read", "done, 7, 1, 2, 3, 4, 5, 6"),
     ("write", "done, 7, 2 for N, 13, 3, 2 for moves, 12"),
     ("check", "refused, safe, reached, 12"),
+    ("second", "done, 7, 2, 13"),
+    ("into", "done, 7, 2, 13, 14, 4"),
+    ("add", "done, 7, 2, 13, 14, 4, 15"),
+    ("remove", "done, 7, 2, 13, 14, 4, 15"),
+    ("g by second", "done, 7, 2, 13, 14"),
 ];
 
 /// What else must have been among them.
-const ALSO: [(&str, &str); 7] = [
+const ALSO: [(&str, &str); 9] = [
     ("N of a run", "1, 63, 64, 65, 128, 255, 256"),
     (
         "its sets",
@@ -39,6 +44,8 @@ const ALSO: [(&str, &str); 7] = [
     ),
     ("its rules", "0, 1 to 9, 10 to 99, 100 to 999, 1000 up"),
     ("parts", "two as one, no sum, budget 0 at the end"),
+    ("edits", "second table in step, taken back"),
+    ("kept runs", "refused with 8, safe, reached"),
     ("files", "written and read, read and written, 18184 bytes"),
 ];
 

@@ -1,6 +1,8 @@
 //! Short forms of what a call was given, for a failure's report.
 
+use crate::given::Both;
 use independent::make::Model;
+use independent::table::{rows_of, MOVE_WORDS};
 use independent::Set;
 
 /// At most so many of anything.
@@ -37,6 +39,32 @@ pub fn moves(words: &[u64]) -> String {
         }
     }
     format!("{} words of moves {}", words.len(), short(&pairs, " "))
+}
+
+/// Both tables: the moves, and the moves on which the second table disagrees.
+pub fn both(both: &Both) -> String {
+    let second = both.second.len();
+    let disagree = if both.moves.len() == MOVE_WORDS && second == MOVE_WORDS {
+        let pairs = disagreements(both);
+        format!("{} disagreements {}", pairs.len(), short(&pairs, " "))
+    } else {
+        "not to be held against each other".into()
+    };
+    let (n, moves) = (both.n, moves(&both.moves));
+    format!("N {n}, {moves}, second table of {second}, {disagree}")
+}
+
+fn disagreements(both: &Both) -> Vec<String> {
+    let (moves, second) = (rows_of(&both.moves), rows_of(&both.second));
+    let mut pairs = Vec::new();
+    for (s, row) in moves.iter().enumerate() {
+        for (t, leading_to) in second.iter().enumerate() {
+            if row.member(t) != leading_to.member(s) {
+                pairs.push(format!("{s}-{t}"));
+            }
+        }
+    }
+    pairs
 }
 
 pub fn run(words: &[u64]) -> String {

@@ -1,4 +1,4 @@
-//! The refusal numbers of document 01.
+//! The refusal numbers of document 01, and from 14 on those of document 02.
 
 /// The file ends inside a count or entry.
 pub const FILE_ENDS: u8 = 1;
@@ -27,3 +27,7 @@ pub const OUTPUT_SHORT: u8 = 12;
 /// Table not sound, a set given to f or g has members from N up, or an angle
 /// or mode from place N up not 0.
 pub const NOT_SOUND: u8 = 13;
+/// The two tables disagree in any row or column up to 255.
+pub const DISAGREE: u8 = 14;
+/// Adding a move that is there or removing one that isn't.
+pub const NOTHING_TO_EDIT: u8 = 15;

@@ -6,6 +6,13 @@ use crate::set::{number_of_states, Set, PLACES};
 /// The words of a move table.
 pub const MOVE_WORDS: usize = 1024;
 
+/// The 256 rows held in 1,024 words.
+pub fn rows_of(words: &[u64]) -> Vec<Set> {
+    (0..PLACES)
+        .map(|s| Set::from_words(&words[4 * s..4 * s + 4]))
+        .collect()
+}
+
 /// The moves: row s is the set of states one move from s.  256 rows.
 pub struct Moves {
     pub n: usize,
@@ -17,10 +24,8 @@ pub struct Moves {
 impl Moves {
     /// The rows held in 1,024 words.
     pub fn take(words: &[u64], n: usize) -> Moves {
-        let rows = (0..PLACES)
-            .map(|s| Set::from_words(&words[4 * s..4 * s + 4]))
-            .collect();
         let full = Set::full_of(n);
+        let rows = rows_of(words);
         Moves { n, full, rows }
     }
 
@@ -111,12 +116,20 @@ pub fn backward(moves: &[u64], n: u16, x: Set) -> Result<Set, u8> {
 
 /// The moves of a call of f or g on x, all refusals tested.
 fn moves_for(moves: &[u64], n: u16, x: Set) -> Result<Moves, u8> {
+    let moves = sound_moves(moves, n)?;
+    if moves.holds_number_from_n_up(x) {
+        return Err(NOT_SOUND);
+    }
+    Ok(moves)
+}
+
+/// The moves of a call given no I and P.  Refusals 7, 2, 13 in that order.
+pub fn sound_moves(moves: &[u64], n: u16) -> Result<Moves, u8> {
     if moves.len() != MOVE_WORDS {
         return Err(WRONG_LENGTH);
     }
-    let n = number_of_states(n)?;
-    let moves = Moves::take(moves, n);
-    if !moves.sound() || moves.holds_number_from_n_up(x) {
+    let moves = Moves::take(moves, number_of_states(n)?);
+    if !moves.sound() {
         return Err(NOT_SOUND);
     }
     Ok(moves)

@@ -1,5 +1,6 @@
 //! One comparison of one call: the library and the independent program on the same input.
 
+pub mod edits;
 pub mod files;
 pub mod listings;
 pub mod moves;
@@ -10,8 +11,8 @@ use crate::{Agreed, Case};
 use std::fmt::Display;
 
 /// How a call that was refused, or not, is counted.
-const REFUSALS: [&str; 14] = [
-    "done", "1", "2", "3", "4", "5", "6", "7", "8", "9", "10", "11", "12", "13",
+const REFUSALS: [&str; 16] = [
+    "done", "1", "2", "3", "4", "5", "6", "7", "8", "9", "10", "11", "12", "13", "14", "15",
 ];
 
 fn refusal_name(number: u8) -> &'static str {

@@ -1,10 +1,13 @@
 //! Whole ranges, one after the other: what a random case might not meet.
 
-use crate::calls::{files, moves, runs, sets};
-use crate::given::{tallest, Start};
+use super::edits::{in_step, turned_over};
+use crate::calls::edits::Edited;
+use crate::calls::{edits, files, moves, runs, sets};
+use crate::given::{tallest, Both, Start};
 use crate::lent::any;
 use crate::{Agreed, Case};
 use independent::make::{self, Model};
+use independent::refusal::DISAGREE;
 use independent::rules::Run;
 use independent::run_buffer::RUN_WORDS;
 use independent::set::PLACES;
@@ -110,4 +113,49 @@ pub fn place_of_the_states(case: &mut Case) -> Agreed<()> {
         files::write(case, &changed, &out)?;
     }
     Ok(())
+}
+
+/// A bit changed in each word of a second table, so that it no longer agrees.
+pub fn word_of_a_second_table(case: &mut Case) -> Agreed<()> {
+    let right = Both::of(&make::chain(100));
+    for at in 0..MOVE_WORDS {
+        let mut both = right.clone();
+        both.second[at] ^= 1 << case.random.below(64);
+        disagree(edits::remove(case, &both, 0, 1)?)?;
+    }
+    Ok(())
+}
+
+/// "when the two tables disagree in any row or column up to 255": each bit of row 255, column 255 and the diagonal.
+pub fn line_of_a_second_table(case: &mut Case) -> Agreed<()> {
+    let right = Both::of(&make::chain(3));
+    for at in 0..PLACES {
+        for (row, column) in [(255, at), (at, 255), (at, at)] {
+            let mut both = right.clone();
+            both.second[4 * row + column / 64] ^= 1 << (column % 64);
+            disagree(edits::add(case, &both, 0, 2)?)?;
+        }
+    }
+    Ok(())
+}
+
+/// Each of 256 states as the one that a move leaves and the one that it leads to, in edits one on what the other left.
+pub fn state_of_an_edit(case: &mut Case) -> Agreed<()> {
+    let mut both = Both::of(&Model::blank(PLACES));
+    for s in 0..=255 {
+        for (from, to) in [(s, 255 - s), (255, s), (s, 255)] {
+            both = turned_over(case, &both, from, to)?;
+        }
+    }
+    for s in 0..=255 {
+        edits::into(case, &both, s)?;
+    }
+    in_step(case, &both)
+}
+
+fn disagree(edited: Edited) -> Agreed<()> {
+    match edited {
+        Err(DISAGREE) => Ok(()),
+        _ => Err("tables that disagree were not refused with 14".into()),
+    }
 }

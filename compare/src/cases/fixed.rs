@@ -17,10 +17,17 @@ const FILE_B: [u8; 31] = [
     0x00, 0x00, 0x00, 0x01, 0x00, 0x02, 0x00, 0x00, 0x00, 0x01, 0x00, 0x01, 0x00, 0x02, 0x00,
 ];
 
+pub fn table_a() -> Model {
+    Model::of(3, &[(0, 1), (1, 0)], &[0], &[0, 1])
+}
+
+pub fn table_b() -> Model {
+    Model::of(3, &[(0, 1), (1, 2)], &[0], &[0, 1])
+}
+
 /// The rows of "Tried on small tables" that are runs and files.
 pub fn tables_of_the_document(case: &mut Case) -> Agreed<()> {
-    let a = Model::of(3, &[(0, 1), (1, 0)], &[0], &[0, 1]);
-    let b = Model::of(3, &[(0, 1), (1, 2)], &[0], &[0, 1]);
+    let (a, b) = (table_a(), table_b());
     let rows: [(&Model, &[u64], u64); 7] = [
         (&a, &[], 100),
         (&a, &[7, 0, 0, 0, 1, 0, 0, 0], 100),

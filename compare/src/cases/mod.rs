@@ -1,8 +1,10 @@
 //! The cases: random ones in fixed shares, and some that every seed has.
 
+mod edits;
 mod every;
 mod files;
 mod fixed;
+mod kept;
 mod listings;
 mod moves;
 mod parts;
@@ -15,7 +17,7 @@ use crate::{Agreed, Case};
 type Kind = fn(&mut Case) -> Agreed<()>;
 
 /// The cases that every seed has.
-const FIXED: [Kind; 12] = [
+const FIXED: [Kind; 16] = [
     fixed::tables_of_the_document,
     fixed::longest_file,
     fixed::longest_listings,
@@ -28,30 +30,40 @@ const FIXED: [Kind; 12] = [
     every::word_of_a_run_buffer,
     every::count_of_a_run_buffer,
     every::place_of_the_states,
+    every::word_of_a_second_table,
+    every::line_of_a_second_table,
+    every::state_of_an_edit,
+    kept::by_hand,
 ];
 
 /// So far apart the fixed cases stand, at first, among the random ones.
 const APART: u64 = 100;
 
 /// How many of a thousand cases are of which kind.
-const SHARES: [(u64, Kind); 17] = [
+const SHARES: [(u64, Kind); 23] = [
     (40, sets::set_calls),
     (30, sets::turns),
-    (110, moves::any_step),
+    (90, moves::any_step),
     (30, moves::hard_step),
     (20, rules::fresh),
-    (150, rules::single),
-    (70, rules::singles),
+    (115, rules::single),
+    (60, rules::singles),
     (20, rules::entry_check),
-    (180, runs::run),
+    (145, runs::run),
     (50, runs::hard_run),
     (70, parts::parts),
-    (110, files::read),
+    (90, files::read),
     (3, files::cut_at_each_place),
     (4, files::changed_at_each_place),
-    (66, files::write),
+    (56, files::write),
     (17, files::there_and_back),
     (30, listings::of_a_file),
+    (20, edits::second),
+    (22, edits::into),
+    (44, edits::edit),
+    (20, edits::g_by_second),
+    (4, edits::several),
+    (20, kept::any_run),
 ];
 
 /// Runs the case of this number.

@@ -30,7 +30,7 @@ fn step(case: &mut Case, mut model: Model) -> Agreed<()> {
 }
 
 /// A set to take f and g of, sometimes with members from N up.
-fn argument(random: &mut Random, model: &Model) -> Set {
+pub fn argument(random: &mut Random, model: &Model) -> Set {
     let full = Set::full_of(model.states());
     match random.below(10) {
         0 => full,

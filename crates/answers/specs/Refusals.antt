@@ -1,4 +1,4 @@
--- The refusal numbers of document 01, each named once, and the order in which they are looked for. Code has the same names as constants.
+-- The refusal numbers of documents 01 and 02, each named once, and the order in which they are looked for. Code has the same names as constants.
 use Prim.Native.Nat.{ℕ}
 use mathlib.Core.Bool.{Bool, false, _||_, cond}
 use mathlib.Core.List.{List, [], _∷_}
@@ -59,6 +59,14 @@ shortOutput = 12
 -- the table, a set given to f or g, or the places from N up are not sound
 abbrev pub notSound : ℕ
 notSound = 13
+
+-- the move table and the second table disagree
+abbrev pub tablesDisagree : ℕ
+tablesDisagree = 14
+
+-- the move to add is there, or the one to remove is not
+abbrev pub nothingToEdit : ℕ
+nothingToEdit = 15
 
 -- ---- which of them
 -- a test, and the number of the refusal where it fails

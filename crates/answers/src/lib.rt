@@ -1,4 +1,4 @@
-// The refusal numbers of document 01, by name. Code refuses by these; promises use the same names
+// The refusal numbers of documents 01 and 02, by name. Code refuses by these; promises use the same names
 // in specs/Refusals.antt, so a number that differs between the two breaks every proof that meets it.
 
 // The call was taken: no refusal.
@@ -29,3 +29,7 @@ pub const NO_ROOM: u8 = 11;
 pub const SHORT_OUTPUT: u8 = 12;
 // The table, a set given to f or g, or the places from N up are not sound.
 pub const NOT_SOUND: u8 = 13;
+// The move table and the second table disagree.
+pub const TABLES_DISAGREE: u8 = 14;
+// The move to add is there, or the one to remove is not.
+pub const NOTHING_TO_EDIT: u8 = 15;

@@ -14,7 +14,8 @@ use Rattle.moves.specs.Models.{Control, on, control}
 use Rattle.tables.proofs.Files.{contents-is}
 use Rattle.tables.specs.RoundTrip.{Bytes}
 use Rattle.tables.proofs.Round.{read-proper, read-contents}
-use Rattle.tables.specs.Control.{rowsOfEntries, anglesOfEntries, modesOfEntries, controlOf, sized, reading}
+use Rattle.tables.proofs.Filling.{length-rows}
+use Rattle.tables.specs.Control.{anglesOfEntries, modesOfEntries, controlOf, sized, reading}
 use Rattle.tables.specs.Format.{Contents, Taken, refusedAt, taken, contents}
 use Rattle.tables.specs.Said.{Read, numberOf, offsetOf}
 use Rattle.tables.specs.declared.Reading.{Reading}
@@ -26,12 +27,12 @@ use Rattle.checks.specs.Inner.{Sought}
 
 -- the table of a file that was read can be searched
 contents-sought : (file : List ℕ) (l : Contents) → Bytes file → contents file ≡ taken l → Sought (controlOf l)
-unfolding controlOf rowsOfEntries anglesOfEntries modesOfEntries
+unfolding controlOf anglesOfEntries modesOfEntries
 contents-sought file l B e =
     let f = contents-is file l e in
     record {
       range = in-range (length (l .states)) (f .states .least) (f .states .most);
-      rows = length-tabulate _ _;
+      rows = length-rows (l .moves);
       sound = read-proper file B l e .sound;
       angles = length-tabulate _ _;
       modes = length-tabulate _ _;

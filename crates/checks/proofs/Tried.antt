@@ -1,5 +1,6 @@
 -- The rows of specs/Tried.antt compute.
 use Prim.Native.Nat.{ℕ}
+use mathlib.Core.Bool.{true}
 use mathlib.Core.List.{List, [], _∷_}
 use mathlib.Core.Path.{_≡_, refl, sym, ap, _∙_}
 use Rattle.sets.specs.Search.{orElse, least, found, any, all}
@@ -28,7 +29,9 @@ reads-b = refl
 -- its moves, one by one, from no moves
 rows-b : rowsOfEntries (1 ∷ 65538 ∷ []) ≡ B .rows
 unfolding withMove with quad tabulate member bit pack wordOf setOf
-rows-b = sym (rows-more (1 ∷ []) 65538) ∙ ap (λ (r : List ℕ). withMove r 1 2) (sym (rows-more [] 1) ∙ ap (λ (r : List ℕ). withMove r 0 1) (sym rows-none))
+rows-b =
+    sym (rows-more (1 ∷ []) 65538)
+    ∙ ap (λ (r : List ℕ). withMove r 1 2 true) (sym (rows-more [] 1) ∙ ap (λ (r : List ℕ). withMove r 0 1 true) (sym rows-none))
 
 table-b : controlOf heldB .table ≡ B
 unfolding controlOf setOfEntries among setOf wordOf pack

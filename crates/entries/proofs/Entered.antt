@@ -9,12 +9,12 @@ use Rattle.answers.proofs.Order.{none-failing}
 use Rattle.answers.proofs.Unique.{only}
 use Rattle.entries.specs.Refusal.{entryRefusal}
 use Rattle.rules.proofs.Held.{fit-by}
-use Rattle.rules.proofs.Ready.{Words64, Ready, good-by, ready-by}
+use Rattle.rules.proofs.Ready.{Ready, good-by, ready-by}
 use Rattle.rules.specs.Buffer.{entryCheck}
 use Rattle.rules.specs.Table.{Table, soundTable}
 use Rattle.sets.proofs.Range.{range-says}
 use Rattle.sets.proofs.Tests.{passed, eqb-says}
-use Rattle.sets.specs.Sets.{Proper, inRange}
+use Rattle.sets.specs.Sets.{Proper, inRange, Words}
 
 -- what was tested
 pub record Entered (t : Table) (b : List ℕ) : Type 0 where
@@ -43,7 +43,7 @@ entered t b e =
     }
 
 -- the buffer and the two sets are words, as what code is lent always is
-pub enters : (t : Table) (b : List ℕ) → Words64 b → Proper 256 (t .starts) → Proper 256 (t .safe) → entryRefusal t b ≡ 0 → Ready t b
+pub enters : (t : Table) (b : List ℕ) → Words b → Proper 256 (t .starts) → Proper 256 (t .safe) → entryRefusal t b ≡ 0 → Ready t b
 enters t b words starts safe e =
     let h = entered t b e in
     ready-by (good-by t (h .big) starts safe (h .sound)) (fit-by t (h .big) b (h .long) words (h .entry))

@@ -15,12 +15,12 @@ use Rattle.moves.specs.Wide.{forward256, backward256}
 use Rattle.rules.proofs.Entry.{true-held, held-is, leb-true, leb-false, ranges-say}
 use Rattle.rules.proofs.Held.{held-by}
 use Rattle.rules.proofs.Reading.{x-is, y-is, n-is, k-is, parts-256, proper-forward, proper-backward}
-use Rattle.rules.proofs.Ready.{Words64, Good, Spans, Shaped}
+use Rattle.rules.proofs.Ready.{Good, Spans, Shaped}
 use Rattle.rules.specs.Buffer.{decode, each, held, clearX, clearY, unused, soundX, soundY, rises, falls, parts, topped, ranges, entryTests, entryCheck, Normal}
 use Rattle.rules.specs.Table.{Table, f}
 use Rattle.sets.proofs.Tests.{not-true, not-false}
 use Rattle.sets.proofs.Within.{within-256}
-use Rattle.sets.specs.Sets.{Set, empty, within, sound, quad, Proper}
+use Rattle.sets.specs.Sets.{Set, empty, within, sound, quad, Proper, Words}
 use Rattle.sets.specs.Search.{all}
 
 and-same : (a : Bool) → a ≡ (a && true)
@@ -207,7 +207,7 @@ pub entry-by : (t : Table) (b : List ℕ) (r : Bool) → r ≡ each (entryTests 
 unfolding entryCheck
 entry-by t b r e = e
 
-pub shaped-by : (t : Table) (b : List ℕ) → Words64 b → (r₁ r₂ r₃ : Bool) → Good t → Spans b
+pub shaped-by : (t : Table) (b : List ℕ) → Words b → (r₁ r₂ r₃ : Bool) → Good t → Spans b
     → r₁ ≡ unused b → not r₁ ≡ false → r₂ ≡ soundX (t .size) (decode b) ((decode b) .n) → not r₂ ≡ false
     → r₃ ≡ soundY (t .size) (decode b) → not r₃ ≡ false → Shaped t b
 unfolding decode

@@ -10,9 +10,8 @@ use lib.IntN.{ℤ}
 use Rattle.answers.specs.Answer.{Answer, given}
 use Rattle.answers.specs.Refusals.{noRefusal}
 use Rattle.sets.specs.Sets.{Set, empty, full, inRange, sizeRefusal}
-use Rattle.sets.specs.Said.{IsFull}
+use Rattle.sets.specs.Said.{IsFull, Answers}
 use Rattle.sets.specs.declared.SetAnswer.{SetAnswer}
-use Rattle.moves.specs.Said.{Answers, moveRefusal}
 use Rattle.moves.specs.declared.Model.{Model}
 use Rattle.moves.specs.Models.{on, control}
 use Rattle.rules.specs.Table.{table}
@@ -62,18 +61,18 @@ moved-new : (k : ℕ) (x y : Set) → k ≡ 0 → cond (eqb k noRefusal) x y ≡
 moved-new zero x y e = refl
 moved-new (suc k) x y e = absurd (omega arith)
 
--- of a set w that is the lent x; h is f or g
-pub moved-given :
-    (h : ℕ → List ℕ → Set → Set) {N : ℕ} {rows w x old new : List ℕ} {a : SetAnswer} → w ≡ x → Answers N rows w (h N rows w) a
-    → new ≡ kept (a .refusal) (a .set .words) old → SetGiven (moveRefusal N rows x) (h N rows x) old new (a .refusal)
-moved-given h {N} {rows} {w} {x} {old} {new} {a} e p q =
-    subst (λ x. SetGiven (moveRefusal N rows x) (h N rows x) old new (a .refusal)) e
-    (record {
-      answer = p .refusal;
-      place =
-          q ∙ ap (λ k. kept k (a .set .words) old) (p .refusal)
-          ∙ kept-same (moveRefusal N rows w) _ _ _ (λ z. p .set ∙ moved-new (moveRefusal N rows w) _ _ z);
-    })
+pub set-given : {k : ℕ} {result old new : Set} {a : SetAnswer} → Answers k result a → new ≡ kept (a .refusal) (a .set .words) old
+    → SetGiven k result old new (a .refusal)
+set-given {k} {result} {old} {new} {a} p q = record {
+  answer = p .refusal;
+  place = q ∙ ap (λ m. kept m (a .set .words) old) (p .refusal) ∙ kept-same k _ _ _ (λ z. p .set ∙ moved-new k _ _ z);
+}
+
+-- .. of a set w that is the lent x: `refusal` and `result` say what comes of it
+pub given-of :
+    (refusal : Set → ℕ) (result : Set → Set) {w x old new : Set} {a : SetAnswer} → w ≡ x → Answers (refusal w) (result w) a
+    → new ≡ kept (a .refusal) (a .set .words) old → SetGiven (refusal x) (result x) old new (a .refusal)
+given-of refusal result {w} {x} {old} {new} {a} e p q = subst (λ x. SetGiven (refusal x) (result x) old new (a .refusal)) e (set-given p q)
 
 -- ---- an answer that is another
 pub passed : {A : Type 0} {a b : Answer A} {old new : A} {r : ℕ} → Gives a old new r → a ≡ b → Gives b old new r

@@ -11,7 +11,7 @@ use lib.IntN.{ℤ}
 use lib.ListN.{length, drop}
 use Rattle.answers.proofs.Order.{numbersIn, failing-in}
 use Rattle.answers.specs.Answer.{Answer, refused, given, unlessRefused}
-use Rattle.answers.specs.Refusals.{oneOf, noRoom}
+use Rattle.answers.specs.Refusals.{oneOf, noRoom, firstFailing}
 use Rattle.sets.specs.Sets.{Set, inRange, sizeRefusal}
 use Rattle.turns.specs.Turn.{isAngle, between, turnOf}
 use Rattle.rules.specs.Buffer.{encode, decode}
@@ -23,6 +23,7 @@ use Rattle.rules.specs.Table.{Table}
 use Rattle.moves.specs.Models.{Control}
 use Rattle.moves.specs.Said.{moveRefusal}
 use Rattle.entries.specs.Refusal.{entryRefusal}
+use Rattle.edits.specs.Promises.{lentTests, intoRefusal, editRefusal, gRefusal}
 use Rattle.runs.specs.Promises.{freshRefusal, singleAnswer, singleBuffer, runRefusal, runAnswer, ran, setAfter, walkAfter}
 use Rattle.runs.specs.Promises.{Answered}
 use Rattle.runs.specs.Said.{said}
@@ -65,6 +66,26 @@ turn-number a b k e = go (isAngle a && isAngle b) e
 move-number : (N : ℕ) (rows : List ℕ) (x : Set) → moveRefusal N rows x ≢ 0 → oneOf (7 ∷ 2 ∷ 13 ∷ []) (moveRefusal N rows x) ≡ true
 unfolding moveRefusal numbersIn oneOf
 move-number N rows x h = failing-in (7 ∷ 2 ∷ 13 ∷ []) _ refl h
+
+second-number : (N : ℕ) (rows second : List ℕ) → firstFailing (lentTests N rows second) ≢ 0
+    → oneOf (7 ∷ 2 ∷ 13 ∷ []) (firstFailing (lentTests N rows second)) ≡ true
+unfolding lentTests numbersIn oneOf
+second-number N rows second h = failing-in (7 ∷ 2 ∷ 13 ∷ []) _ refl h
+
+into-number : (N : ℕ) (rows second : List ℕ) (t : ℕ) → intoRefusal N rows second t ≢ 0
+    → oneOf (7 ∷ 2 ∷ 13 ∷ 14 ∷ 4 ∷ []) (intoRefusal N rows second t) ≡ true
+unfolding intoRefusal lentTests numbersIn oneOf
+into-number N rows second t h = failing-in (7 ∷ 2 ∷ 13 ∷ 14 ∷ 4 ∷ []) _ refl h
+
+edit-number : (N : ℕ) (rows second : List ℕ) (s t : ℕ) (there : Bool) → editRefusal N rows second s t there ≢ 0
+    → oneOf (7 ∷ 2 ∷ 13 ∷ 14 ∷ 4 ∷ 15 ∷ []) (editRefusal N rows second s t there) ≡ true
+unfolding editRefusal lentTests numbersIn oneOf
+edit-number N rows second s t there h = failing-in (7 ∷ 2 ∷ 13 ∷ 14 ∷ 4 ∷ 15 ∷ []) _ refl h
+
+by-second-number : (N : ℕ) (rows second : List ℕ) (x : Set) → gRefusal N rows second x ≢ 0
+    → oneOf (7 ∷ 2 ∷ 13 ∷ 14 ∷ []) (gRefusal N rows second x) ≡ true
+unfolding gRefusal lentTests numbersIn oneOf
+by-second-number N rows second x h = failing-in (7 ∷ 2 ∷ 13 ∷ 14 ∷ []) _ refl h
 
 entry-number : (t : Table) (b : List ℕ) → entryRefusal t b ≢ 0 → oneOf (7 ∷ 2 ∷ 13 ∷ 8 ∷ []) (entryRefusal t b) ≡ true
 unfolding entryRefusal numbersIn oneOf
@@ -215,6 +236,15 @@ demand-1 =
       full = λ N r p h. rw (p .refusal) (full-number N (rw (p .refusal) at h));
       turn = turn-number;
       f-and-g = λ N rows x result r p h. rw (p .refusal) (move-number N rows x (rw (p .refusal) at h));
+      second = λ N rows second second′ r p h.
+          let h′ = rw (p .answer) at h in
+          (rw (p .answer) (second-number N rows second h′), p .second-is ∙ rw (ne-eqb (firstFailing (lentTests N rows second)) 0 h′));
+      into = λ N rows second t result r p h. rw (p .refusal) (into-number N rows second t (rw (p .refusal) at h));
+      edit = λ N rows rows′ second second′ s t there r p h.
+          let h′ = rw (p .answer) at h in
+          let refused-is = ne-eqb (editRefusal N rows second s t there) 0 h′ in
+          (rw (p .answer) (edit-number N rows second s t there h′), p .rows-are ∙ rw refused-is, p .second-is ∙ rw refused-is);
+      g-by-second = λ N rows second x result r p h. rw (p .refusal) (by-second-number N rows second x (rw (p .refusal) at h));
       entry = entry-number;
       fresh = λ N b b′ r p h.
           let h′ = rw (p .answer) at h in
@@ -252,6 +282,12 @@ demand-1-boundary =
       f-and-g = λ N rows x result old new r p h.
           let h′ = rw (p .answer) at h in
           (rw (p .answer) (move-number N rows x h′), kept-refused _ result old new (p .place) h′);
+      into = λ N rows second t result old new r p h.
+          let h′ = rw (p .answer) at h in
+          (rw (p .answer) (into-number N rows second t h′), kept-refused _ result old new (p .place) h′);
+      g-by-second = λ N rows second x result old new r p h.
+          let h′ = rw (p .answer) at h in
+          (rw (p .answer) (by-second-number N rows second x h′), kept-refused _ result old new (p .place) h′);
       turn = λ a b old new r p h. let (e, q) = gives-refused _ old new r p h in (turn-number a b r e, q);
       single = λ t z b b′ old new r p h.
           let (e, q) = gives-refused _ old new r (p .answer) h in

@@ -1,5 +1,6 @@
 -- Any two outcomes that a call's promise allows are equal, answer and lent places: a line for each kind of call.
 use Prim.Native.Nat.{ℕ}
+use mathlib.Core.Bool.{Bool}
 use mathlib.Core.List.{List, [], _∷_}
 use mathlib.Core.Path.{_≡_, sym, subst, _∙_}
 use lib.IntN.{ℤ}
@@ -9,6 +10,8 @@ use Rattle.sets.specs.Sets.{Set, count, smallest}
 use Rattle.rules.specs.Table.{Table}
 use Rattle.runs.specs.Promises.{FreshPromise}
 use Rattle.runs.proofs.Unique as runs
+use Rattle.edits.specs.Promises.{SecondPromise, EditPromise}
+use Rattle.edits.proofs.Unique as edits
 use Rattle.moves.specs.Models.{Control}
 use Rattle.tables.proofs.Unique as tables
 use Rattle.lampferret.specs.Boundary.{kept, number, Gives, answerWords, SetGiven, SingleGiven, RunGiven, ReadGiven, WriteGiven, ListGiven}
@@ -19,7 +22,7 @@ count-once x = only
 pub smallest-once : (x : Set) {r r′ : ℕ} → r ≡ number (smallest x) → r′ ≡ number (smallest x) → r ≡ r′
 smallest-once x = only
 
--- full, f and g
+-- full, f and g, the states with a move to a state, g by the second table
 pub set-once : (k : ℕ) (x old : Set) {new new′ : Set} {r r′ : ℕ} → SetGiven k x old new r → SetGiven k x old new′ r′ → (r ≡ r′) × (new ≡ new′)
 set-once k x old p q = (only (p .answer) (q .answer), only (p .place) (q .place))
 
@@ -29,6 +32,16 @@ gives-once a old p q = (only (p .refusal) (q .refusal), only (p .place) (q .plac
 
 pub fresh-once : (N : ℕ) (b : List ℕ) {b′ b″ : List ℕ} {r r′ : ℕ} → FreshPromise N b b′ r → FreshPromise N b b″ r′ → (r ≡ r′) × (b′ ≡ b″)
 fresh-once = runs.fresh-once
+
+pub second-once : (N : ℕ) (rows second : List ℕ) {second₁ second₂ : List ℕ} {r₁ r₂ : ℕ} → SecondPromise N rows second second₁ r₁
+    → SecondPromise N rows second second₂ r₂ → (r₁ ≡ r₂) × (second₁ ≡ second₂)
+second-once = edits.second-once
+
+-- a move added or removed
+pub edit-once : (N : ℕ) (rows second : List ℕ) (s t : ℕ) (there : Bool) {rows₁ rows₂ second₁ second₂ : List ℕ} {r₁ r₂ : ℕ}
+    → EditPromise N rows rows₁ second second₁ s t there r₁ → EditPromise N rows rows₂ second second₂ s t there r₂
+    → (r₁ ≡ r₂) × (rows₁ ≡ rows₂) × (second₁ ≡ second₂)
+edit-once = edits.edit-once
 
 pub single-once :
     (t : Table) (z : Set) (b : List ℕ) (old : ℕ) {b′ b″ : List ℕ} {new new′ r r′ : ℕ} → SingleGiven t z b b′ old new r

@@ -1,21 +1,22 @@
 -- Demand 1 of the letter, call by call: each refusal has its number, and a refused call changes no lent buffer. proofs/Refused.antt
 -- proves it from the promises. That every call ends and that nothing goes out of range is what the check of the code itself shows.
 use Prim.Native.Nat.{ℕ}
-use mathlib.Core.Bool.{true}
+use mathlib.Core.Bool.{Bool, true}
 use mathlib.Core.List.{List, [], _∷_}
 use mathlib.Core.Logic.{_≢_}
 use mathlib.Core.Path.{_≡_}
 use lib.IntN.{ℤ}
 use Rattle.answers.specs.Answer.{refused, given}
 use Rattle.answers.specs.Refusals.{oneOf}
-use Rattle.sets.specs.Said.{IsFull}
+use Rattle.sets.specs.Said.{IsFull, Answers}
 use Rattle.sets.specs.Sets.{Set, sizeRefusal}
 use Rattle.sets.specs.declared.SetAnswer.{SetAnswer}
 use Rattle.turns.specs.Turn.{turnOf}
 use Rattle.rules.specs.Table.{Table}
 use Rattle.moves.specs.Models.{Control}
-use Rattle.moves.specs.Said.{Answers, moveRefusal}
+use Rattle.moves.specs.Said.{moveRefusal}
 use Rattle.entries.specs.Refusal.{entryRefusal}
+use Rattle.edits.specs.Promises.{intoRefusal, gRefusal, SecondPromise, EditPromise}
 use Rattle.runs.specs.Promises.{FreshPromise, SinglePromise, RunPromise}
 use Rattle.runs.specs.Said.{said, saidOne}
 use Rattle.runs.specs.declared.Asked.{Asked}
@@ -36,8 +37,20 @@ pub record Demand1 : Type 0 where
   -- `turn`: 3
   pub turn : (a b : ℤ) (k : ℕ) → turnOf a b ≡ refused k → oneOf (3 ∷ []) k ≡ true
   -- `f` and `g`: 7, 2, 13
-  pub f-and-g : (N : ℕ) (rows : List ℕ) (x result : Set) (r : SetAnswer) → Answers N rows x result r → r .refusal ≢ 0
+  pub f-and-g : (N : ℕ) (rows : List ℕ) (x result : Set) (r : SetAnswer) → Answers (moveRefusal N rows x) result r → r .refusal ≢ 0
       → oneOf (7 ∷ 2 ∷ 13 ∷ []) (r .refusal) ≡ true
+  -- `make_second`, and `lampferret_second` with the same promise: 7, 2, 13
+  pub second : (N : ℕ) (rows second second′ : List ℕ) (r : ℕ) → SecondPromise N rows second second′ r → r ≢ 0
+      → (oneOf (7 ∷ 2 ∷ 13 ∷ []) r ≡ true) × (second′ ≡ second)
+  -- `into`: 7, 2, 13, 14, 4
+  pub into : (N : ℕ) (rows second : List ℕ) (t : ℕ) (result : Set) (r : SetAnswer) → Answers (intoRefusal N rows second t) result r → r .refusal ≢ 0
+      → oneOf (7 ∷ 2 ∷ 13 ∷ 14 ∷ 4 ∷ []) (r .refusal) ≡ true
+  -- `add` and `remove`, and `lampferret_add` and `lampferret_remove` with the same promise: 7, 2, 13, 14, 4, 15
+  pub edit : (N : ℕ) (rows rows′ second second′ : List ℕ) (s t : ℕ) (there : Bool) (r : ℕ) → EditPromise N rows rows′ second second′ s t there r → r ≢ 0
+      → (oneOf (7 ∷ 2 ∷ 13 ∷ 14 ∷ 4 ∷ 15 ∷ []) r ≡ true) × (rows′ ≡ rows) × (second′ ≡ second)
+  -- `g_by_second`: 7, 2, 13, 14
+  pub g-by-second : (N : ℕ) (rows second : List ℕ) (x result : Set) (r : SetAnswer) → Answers (gRefusal N rows second x) result r → r .refusal ≢ 0
+      → oneOf (7 ∷ 2 ∷ 13 ∷ 14 ∷ []) (r .refusal) ≡ true
   -- the entry check: 7, 2, 13, 8
   pub entry : (t : Table) (b : List ℕ) → entryRefusal t b ≢ 0 → oneOf (7 ∷ 2 ∷ 13 ∷ 8 ∷ []) (entryRefusal t b) ≡ true
   -- `fresh`, and `lampferret_fresh` with the same promise: 7, 2
@@ -73,6 +86,12 @@ pub record Demand1Boundary : Type 0 where
   -- `lampferret_f` and `lampferret_g`: 7, 2, 13
   pub f-and-g : (N : ℕ) (rows : List ℕ) (x result old new : Set) (r : ℕ) → SetGiven (moveRefusal N rows x) result old new r → r ≢ 0
       → (oneOf (7 ∷ 2 ∷ 13 ∷ []) r ≡ true) × (new ≡ old)
+  -- `lampferret_into`: 7, 2, 13, 14, 4
+  pub into : (N : ℕ) (rows second : List ℕ) (t : ℕ) (result old new : Set) (r : ℕ) → SetGiven (intoRefusal N rows second t) result old new r → r ≢ 0
+      → (oneOf (7 ∷ 2 ∷ 13 ∷ 14 ∷ 4 ∷ []) r ≡ true) × (new ≡ old)
+  -- `lampferret_g_by_second`: 7, 2, 13, 14
+  pub g-by-second : (N : ℕ) (rows second : List ℕ) (x result old new : Set) (r : ℕ) → SetGiven (gRefusal N rows second x) result old new r → r ≢ 0
+      → (oneOf (7 ∷ 2 ∷ 13 ∷ 14 ∷ []) r ≡ true) × (new ≡ old)
   -- `lampferret_turn`: 3
   pub turn : (a b old new : ℤ) (r : ℕ) → Gives (turnOf a b) old new r → r ≢ 0 → (oneOf (3 ∷ []) r ≡ true) × (new ≡ old)
   -- `lampferret_single`: 7, 2, 13, 8, 10, 11, 9

@@ -1,8 +1,9 @@
-// The calls for C and Rust, one for each call of document 01: numbers pass as themselves, a set as four
+// The calls for C and Rust, one for each call of documents 01 and 02: numbers pass as themselves, a set as four
 // lent words, any other buffer as its place and its length.
 //
 // Each call passes on what a proved call answers: the refusal's number, 0 for none, and the rest of the
 // answer in lent places. Where it refuses, each lent place is left as it was, but for the offset of a reading.
+ghost use mathlib.Core.Bool.{true, false};
 ghost use mathlib.Core.Path.{_≡_};
 ghost use Rattle.answers.specs.Answer.{given};
 ghost use Rattle.sets.specs.Sets.{count, smallest, full, sizeRefusal};
@@ -10,7 +11,9 @@ ghost use Rattle.turns.specs.Turn.{turnOf};
 ghost use Rattle.rules.specs.Table.{table, forward as f, backward as g};
 ghost use Rattle.moves.specs.Models.{control};
 ghost use Rattle.moves.specs.Said.{moveRefusal};
+ghost use Rattle.rules.specs.Second.{into as states_into};
 ghost use Rattle.runs.specs.Promises.{FreshPromise};
+ghost use Rattle.edits.specs.Promises.{intoRefusal, gRefusal, SecondPromise, EditPromise};
 ghost use Rattle.checks.specs.Check.{checkListing};
 ghost use Rattle.sets.specs.Said.{said};
 ghost use Rattle.turns.specs.Said.{said as saidTurn};
@@ -137,6 +140,78 @@ pub extern "C" fn lampferret_g(moves: &[u64], size: u16, x: &[u64; 4], result: &
         (now (result .entry)) (now (result .exit)) r ⌝ }
 {
     let a = moves::g(moves, size, set_of(x));
+    let refusal = a.refusal;
+    give_set(refusal, a.set, result);
+    refusal
+}
+
+// The second table of a move table: row t holds the states with a move to t.
+#[no_mangle]
+pub extern "C" fn lampferret_second(moves: &[u64], size: u16, second: &mut [u64]) -> u8
+    ensures { λ r. ⌜ SecondPromise size (now (moves .entry)) (now (second .entry)) (now (second .exit)) r ⌝ }
+{
+    edits::make_second(moves, size, second)
+}
+
+// The states with a move to a state.
+#[no_mangle]
+pub extern "C" fn lampferret_into(
+    moves: &[u64],
+    second: &[u64],
+    size: u16,
+    state: u16,
+    result: &mut [u64; 4],
+) -> u8
+    ensures { λ r. ⌜ SetGiven (intoRefusal size (now (moves .entry)) (now (second .entry)) state) (states_into (now (moves .entry)) state)
+        (now (result .entry)) (now (result .exit)) r ⌝ }
+{
+    let a = edits::into(moves, second, size, state);
+    let refusal = a.refusal;
+    give_set(refusal, a.set, result);
+    refusal
+}
+
+// A move added, in both tables.
+#[no_mangle]
+pub extern "C" fn lampferret_add(
+    moves: &mut [u64],
+    second: &mut [u64],
+    size: u16,
+    from: u16,
+    to: u16,
+) -> u8
+    ensures { λ r. ⌜ EditPromise size (now (moves .entry)) (now (moves .exit)) (now (second .entry)) (now (second .exit)) from to true r ⌝ }
+{
+    edits::add(moves, second, size, from, to)
+}
+
+// A move removed, from both tables.
+#[no_mangle]
+pub extern "C" fn lampferret_remove(
+    moves: &mut [u64],
+    second: &mut [u64],
+    size: u16,
+    from: u16,
+    to: u16,
+) -> u8
+    ensures { λ r. ⌜ EditPromise size (now (moves .entry)) (now (moves .exit)) (now (second .entry)) (now (second .exit)) from to false r ⌝ }
+{
+    edits::remove(moves, second, size, from, to)
+}
+
+// g(x), worked out from the second table.
+#[no_mangle]
+pub extern "C" fn lampferret_g_by_second(
+    moves: &[u64],
+    second: &[u64],
+    size: u16,
+    x: &[u64; 4],
+    result: &mut [u64; 4],
+) -> u8
+    ensures { λ r. ⌜ SetGiven (gRefusal size (now (moves .entry)) (now (second .entry)) (now (x .entry)))
+        (g size (now (moves .entry)) (now (x .entry))) (now (result .entry)) (now (result .exit)) r ⌝ }
+{
+    let a = edits::g_by_second(moves, second, size, set_of(x));
     let refusal = a.refusal;
     give_set(refusal, a.set, result);
     refusal

@@ -22,7 +22,7 @@ use Rattle.sets.proofs.Tests.{Says, pass, fail}
 use Rattle.sets.specs.Search.{least, found, any, all, sum}
 use Rattle.sets.proofs.Bits.{bit-or, bit-power, pack-of, pack-lt, pack-out, pack-pad, bit-pack}
 use Rattle.sets.proofs.Words.{one-shl}
-use Rattle.sets.specs.Sets.{join, Set, member, bit, pack, wordOf, setOf, empty, within, sound, with, count, quad}
+use Rattle.sets.specs.Sets.{join, Set, member, bit, pack, wordOf, setOf, empty, within, sound, with, without, count, quad}
 
 -- ---- f
 pub forward-none : (rows : List ℕ) (x : Set) → 0 ∷ 0 ∷ 0 ∷ 0 ∷ [] ≡ forward256 0 rows x
@@ -205,8 +205,12 @@ pub count-most : (rows : List ℕ) → moveCount rows ≤ 65536
 unfolding moveCount
 count-most rows = sum-max 256 256 _ (λ s l. count-max 256 (row rows s))
 
--- ---- a move more
-pub move-added : (rows rows′ : List ℕ) (s u : ℕ) (x y : Set) → x ≡ quad rows (4 * s) → y ≡ with 256 x u → rows′ ≡ sets rows (4 * s) y
-    → rows′ ≡ withMove rows s u
-unfolding withMove
-move-added rows rows′ s u x y e f g = g ∙ ap (sets rows (4 * s)) (f ∙ ap (λ (z : Set). with 256 z u) e)
+-- ---- a move there or not
+module _ (rows rows′ : List ℕ) (s u : ℕ) (there : Bool) (x y : Set) (e : x ≡ quad rows (4 * s)) (g : rows′ ≡ sets rows (4 * s) y) where
+  pub move-there : there ≡ true → y ≡ with 256 x u → rows′ ≡ withMove rows s u there
+  unfolding withMove
+  move-there h q = g ∙ rw (h, q, e)
+
+  pub move-gone : there ≡ false → y ≡ without 256 x u → rows′ ≡ withMove rows s u there
+  unfolding withMove
+  move-gone h q = g ∙ rw (h, q, e)

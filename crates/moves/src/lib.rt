@@ -10,7 +10,8 @@ ghost use Rattle.sets.specs.Sets.{wordOf};
 ghost use Rattle.rules.specs.Table.{soundTable, soundRows, soundRow, moveCount, withMove, forward as f, backward as g};
 ghost use Rattle.moves.specs.Models.{on};
 ghost use Rattle.moves.specs.Wide.{forward256, backward256, endsIn};
-ghost use Rattle.moves.specs.Said.{Answers, moveRefusal};
+ghost use Rattle.sets.specs.Said.{Answers};
+ghost use Rattle.moves.specs.Said.{moveRefusal};
 
 // A controller but for its moves: N, the starts I and the safe states P.
 pub struct Model {
@@ -69,13 +70,17 @@ pub fn count_moves(moves: &[u64]) -> usize
     total
 }
 
-// The move table with the move from s to u; numbers from 256 up add nothing.
-pub fn add_move(moves: &mut [u64], s: u16, u: u16)
-    ensures { λ _. ⌜ now (moves .exit) ≡ withMove (now (moves .entry)) s u ⌝ }
+// The move table where the move from s to u is there, or is not; numbers from 256 up change nothing.
+pub fn set_move(moves: &mut [u64], s: u16, u: u16, there: bool)
+    ensures { λ _. ⌜ now (moves .exit) ≡ withMove (now (moves .entry)) s u there ⌝ }
 {
     let at = 4 * (s as usize);
     let row = StateSet::read(moves, at);
-    row.with(u).write(moves, at);
+    if there {
+        row.with(u).write(moves, at);
+    } else {
+        row.without(u).write(moves, at);
+    }
 }
 
 // f, with no test: every number below 256 with a move into it from a member of x below N.
@@ -153,7 +158,7 @@ fn refusal(moves: &[u64], size: u16, x: StateSet) -> u8
 
 // f(x): every state with a move into it from a member of x.
 pub fn f(moves: &[u64], size: u16, x: StateSet) -> SetAnswer
-    ensures { λ r. ⌜ Answers size (now (moves .entry)) (x .words) (f size (now (moves .entry)) (x .words)) r ⌝ }
+    ensures { λ r. ⌜ Answers (moveRefusal size (now (moves .entry)) (x .words)) (f size (now (moves .entry)) (x .words)) r ⌝ }
 {
     let no = refusal(moves, size, x);
     if no != answers::NO_REFUSAL {
@@ -166,7 +171,7 @@ pub fn f(moves: &[u64], size: u16, x: StateSet) -> SetAnswer
 
 // g(x): every state all of whose moves end in x.
 pub fn g(moves: &[u64], size: u16, x: StateSet) -> SetAnswer
-    ensures { λ r. ⌜ Answers size (now (moves .entry)) (x .words) (g size (now (moves .entry)) (x .words)) r ⌝ }
+    ensures { λ r. ⌜ Answers (moveRefusal size (now (moves .entry)) (x .words)) (g size (now (moves .entry)) (x .words)) r ⌝ }
 {
     let no = refusal(moves, size, x);
     if no != answers::NO_REFUSAL {

@@ -11,10 +11,9 @@ use Rattle.rules.proofs.Invariant.{Invariant}
 use Rattle.rules.specs.Buffer.{each, held, ranges, rises, falls, parts, chain, obstacles, conditions}
 use Rattle.rules.specs.Rules.{State}
 use Rattle.rules.specs.Table.{Table}
-use Rattle.sets.proofs.Search.{all-says}
-use Rattle.sets.proofs.Tests.{passed, passes, fails, clash, which, and-true, and-intro, not-true, leb-says, Says, pass, fail}
+use Rattle.sets.proofs.Search.{all-says, all-true}
+use Rattle.sets.proofs.Tests.{passed, passes, fails, which, and-true, and-intro, not-true, leb-says, Says, pass, fail}
 use Rattle.sets.proofs.Within.{is-within, is-beyond, within-true, within-false}
-use Rattle.sets.specs.Search.{all}
 
 abbrev pub Each : List Bool → Type 0
 Each [] = Unit {0}
@@ -59,9 +58,6 @@ leb-true {m} {n} h = passes (leb-says m n) (λ l. omega arith)
 
 pub leb-false : {m n : ℕ} → n < m → leb m n ≡ false
 leb-false {m} {n} h = fails (leb-says m n) (λ l. omega arith)
-
-pub all-true : {n : ℕ} {p : ℕ → Bool} → ((i : ℕ) → i < n → p i ≡ true) → all n p ≡ true
-all-true {n} {p} h = passes (all-says n p) (λ w. clash (h (w .0) (w .1)) (w .2))
 
 -- the place of a test that fails
 pub each-no : (bs : List Bool) (i : ℕ) → getD bs i true ≡ false → each bs ≡ false

@@ -10,13 +10,13 @@ use lib.Dec.{ltb, leb}
 use lib.ListN.{length, getD}
 use lib.Seq.{ext-getD}
 use Rattle.rules.proofs.Buffer.{at-x, at-y, encode-n, encode-k, encode-length, quad-x, quad-y, decode-encode}
-use Rattle.rules.proofs.Entry.{each-true, true-each, all-true, held-true, true-held, ranges-say, entry-inv, inv-entry}
+use Rattle.rules.proofs.Entry.{each-true, true-each, held-true, true-held, ranges-say, entry-inv, inv-entry}
 use Rattle.rules.proofs.Invariant.{Invariant}
 use Rattle.rules.specs.Buffer.{encode, decode, clearX, clearY, unused, soundX, soundY, conditions, entryTests, entryCheck, Normal}
 use Rattle.rules.specs.Rules.{State}
 use Rattle.rules.specs.Table.{Table}
 use Rattle.sets.proofs.Members.{proper-four, proper-empty, proper-past, proper-sound}
-use Rattle.sets.proofs.Search.{all-says}
+use Rattle.sets.proofs.Search.{all-says, all-true}
 use Rattle.sets.proofs.Tests.{passed, failed, passes, which, and-true, implies, leb-says, lt-or-ge, Says, pass, fail}
 use Rattle.sets.proofs.Words.{quad-at}
 use Rattle.sets.specs.Sets.{Set, member, pack, wordOf, setOf, empty, sound, quad, Proper}

@@ -1,3 +1,5 @@
+pub mod Rows
+pub mod Second
 pub mod Adjoint
 pub mod Invariant
 pub mod Keep

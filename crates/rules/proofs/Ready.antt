@@ -1,5 +1,5 @@
 -- What code over a run buffer may rely on: the records that the contracts of private functions cite, and how they are come by.
-use Prim.Native.Nat.{ℕ, _≤_, _<_, _^_}
+use Prim.Native.Nat.{ℕ, _≤_}
 use mathlib.Core.Bool.{true}
 use mathlib.Core.List.{List}
 use mathlib.Core.Path.{_≡_, sym, ap, _∙_}
@@ -11,10 +11,6 @@ use Rattle.rules.specs.Table.{Table, soundTable, soundRows}
 use Rattle.sets.proofs.Members.{proper-sound}
 use Rattle.sets.proofs.Tests.{and-true}
 use Rattle.sets.specs.Sets.{Proper}
-
--- a list of 64-bit words
-abbrev pub Words64 : List ℕ → Type 0
-Words64 b = (i : ℕ) → getD b i 0 < 2 ^ 64
 
 -- a sound table of at most 256 states
 pub record Good (t : Table) : Type 0 where

@@ -1,4 +1,5 @@
 pub mod Table
+pub mod Second
 pub mod Walks
 pub mod Rules
 pub mod Published

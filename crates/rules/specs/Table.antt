@@ -1,11 +1,13 @@
 -- The table: N states, the starts I, the safe states P and the moves; f and g.
-use Prim.Native.Nat.{ℕ, _*_}
+use Prim.Native.Nat.{ℕ, _*_, _/_, _%_}
 use mathlib.Core.Bool.{Bool, not, _&&_, _||_, cond}
 use mathlib.Core.List.{List}
 use lib.Dec.{ltb}
+use lib.ListN.{getD}
 use lib.Seq.{sets}
+use Rattle.sets.specs.Lists.{tabulate}
 use Rattle.sets.specs.Search.{any, all, sum}
-use Rattle.sets.specs.Sets.{Set, member, setOf, sound, with, count, quad}
+use Rattle.sets.specs.Sets.{Set, member, setOf, sound, with, without, count, quad}
 
 -- `size` is N, `starts` is I, `safe` is P; `rows` is the move table of 1,024 words
 pub record Table : Type 0 where
@@ -29,9 +31,13 @@ leads rows s u = member (row rows s) u
 unfoldable pub moveCount : List ℕ → ℕ
 moveCount rows = sum 256 (λ s. count 256 (row rows s))
 
--- a move table with the move from s to u
-unfoldable pub withMove : List ℕ → ℕ → ℕ → List ℕ
-withMove rows s u = sets rows (4 * s) (with 256 (row rows s) u)
+-- a table of 256 rows
+unfoldable pub rowsOf : (ℕ → Set) → List ℕ
+rowsOf h = tabulate 1024 (λ i. getD (h (i / 4)) (i % 4) 0)
+
+-- a move table where the move from s to u is there, or is not
+unfoldable pub withMove : List ℕ → ℕ → ℕ → Bool → List ℕ
+withMove rows s u there = sets rows (4 * s) (cond there (with 256 (row rows s) u) (without 256 (row rows s) u))
 
 -- row s holds no number from N up; it is empty where s is from N up
 unfoldable pub soundRow : ℕ → List ℕ → ℕ → Bool

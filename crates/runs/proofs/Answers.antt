@@ -19,7 +19,7 @@ use Rattle.rules.proofs.Invariant.{Open, Invariant}
 use Rattle.rules.proofs.Meaning.{safe-at, never-noRoom, reached-at}
 use Rattle.rules.proofs.Normal.{run-normal}
 use Rattle.rules.proofs.Reading.{x-is, k-is}
-use Rattle.rules.proofs.Ready.{Words64, Ready, ready-by}
+use Rattle.rules.proofs.Ready.{Ready, ready-by}
 use Rattle.rules.specs.Buffer.{encode, decode, Normal}
 use Rattle.rules.specs.Rules.{noRoom, conclusion, conclusionOf, due, fire, State, Standing, Rule, safe, reached, unfinished}
 use Rattle.rules.specs.Runs as runs
@@ -43,7 +43,7 @@ use Rattle.runs.specs.declared.RunAnswer as answer
 use Rattle.runs.specs.declared.Standing as standing
 use Rattle.runs.specs.declared.search.Ran.{Ran}
 use Rattle.sets.proofs.Tests.{passed, clash, and-true, eqb-says, not-true, not-false}
-use Rattle.sets.specs.Sets.{Set, quad}
+use Rattle.sets.specs.Sets.{Set, quad, Words}
 
 -- ---- a single rule
 pub single-refused : (t : Table) (z : Set) (b : List ℕ) (n m : ℕ) → n ≡ m → (n ≡ 0 → ⊥) → SingleAnswered t z m b b (asked.the-variants.Refused n)
@@ -179,7 +179,7 @@ module _ (t : Table) (b hints set walk : List ℕ) (r : Bool) (e : r ≡ lengths
   run-right n m q = goes-on 7 _ _ r m e n q
 
 -- the buffer that a run leaves
-module _ (t : Table) (b : List ℕ) (v : Ready t b) (budget : ℕ) (ws : List ℕ) (w : Words64 ws) (b′ : List ℕ)
+module _ (t : Table) (b : List ℕ) (v : Ready t b) (budget : ℕ) (ws : List ℕ) (w : Words ws) (b′ : List ℕ)
     (e : b′ ≡ encode ((run t budget (hintsAt ws 0) (decode b)) .state)) where
   left-inv : Invariant t ((run t budget (hintsAt ws 0) (decode b)) .state)
   left-inv = run-keeps t (v .good .big) budget (hintsAt ws 0) (decode b) (v .fit .inv)
@@ -207,7 +207,7 @@ ran-all t s = go (conclusion t s) refl
     go unfinished e = refl
     go noRoom e = absurd (never-noRoom t s e)
 
-module _ (t : Table) (b : List ℕ) (v : Ready t b) (budget : ℕ) (ws : List ℕ) (w : Words64 ws) (b′ : List ℕ) (r : Ran)
+module _ (t : Table) (b : List ℕ) (v : Ready t b) (budget : ℕ) (ws : List ℕ) (w : Words ws) (b′ : List ℕ) (r : Ran)
     (e : RanTo (run t budget (hintsAt ws 0) (decode b)) b′ r) where
   pub ended-ready : Ready t b′
   ended-ready = left-ready t b v budget ws w b′ (e .buffer)

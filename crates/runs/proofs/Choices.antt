@@ -6,7 +6,6 @@ use mathlib.Core.List.{List, [], _∷_}
 use mathlib.Core.Path.{_≡_, sym, ap, _∙_}
 use lib.ListN.{length}
 use Rattle.rules.proofs.Normal.{Words}
-use Rattle.rules.proofs.Ready.{Words64}
 use Rattle.rules.specs.Buffer.{decode}
 use Rattle.rules.specs.Rules.{due}
 use Rattle.rules.specs.Runs.{pick, asks, offered, willDo, choose}
@@ -19,7 +18,7 @@ use Rattle.runs.specs.Said.{asRule}
 use Rattle.runs.specs.declared.Rule as code
 use Rattle.sets.proofs.Members.{proper-four}
 use Rattle.sets.proofs.Tests.{not-true, not-false}
-use Rattle.sets.specs.Sets.{Set, quad, Proper}
+use Rattle.sets.specs.Sets.{Set, quad, Proper, Words as Words64}
 
 -- ---- hints
 pub hints-none : (ws : List ℕ) (a : ℕ) → length ws / 4 ≤ a → hintsAt ws a ≡ []

@@ -28,7 +28,7 @@ use Rattle.rules.specs.ShownWalk.{shownWalk}
 use Rattle.rules.specs.Table.{Table}
 use Rattle.rules.specs.Walks.{BadReached}
 use Rattle.answers.specs.Refusals.{firstFailing}
-use Rattle.rules.proofs.Ready.{Words64, Good, good-by, ready-by}
+use Rattle.rules.proofs.Ready.{Good, good-by, ready-by}
 use Rattle.runs.proofs.Answers.{left-ready, left-back, ran-all, lengths-set, lengths-walk}
 use Rattle.runs.proofs.Choices.{hints-none, hints-same, hints-more}
 use Rattle.runs.proofs.Stores.{place, Place, first, second, inX, inY}
@@ -42,7 +42,7 @@ use Rattle.sets.proofs.Members.{proper-length, proper-word, proper-up}
 use Rattle.sets.proofs.Range.{range-says}
 use Rattle.sets.proofs.Tests.{passed, and-true, eqb-says, lt-or-ge}
 use Rattle.sets.proofs.Words.{take-sets}
-use Rattle.sets.specs.Sets.{Set, quad}
+use Rattle.sets.specs.Sets.{Set, quad, Words}
 use Rattle.rules.specs.Runs as runs
 use Rattle.rules.specs.Demands as rules
 use Rattle.runs.specs.declared.RunAnswer as answer
@@ -128,7 +128,7 @@ lengths-drop a hints set walk set₂ walk₂ e e₁ e₂ =
 
 -- ---- what a run writes
 -- every word of a state's buffer has 64 bits
-pub encode-words : (t : Table) → t .size ≤ 256 → (s : State) → Invariant t s → Normal (t .size) s → Words64 (encode s)
+pub encode-words : (t : Table) → t .size ≤ 256 → (s : State) → Invariant t s → Normal (t .size) s → Words (encode s)
 encode-words t big s v m i = elim (lt-or-ge i 2066) [
   | inl l ↦ at i (place i l)
   | inr l ↦ rw (List·getD-eq-default (encode s) 0 {n = i} (omega (arith, encode-length s))) (omega arith)

@@ -12,7 +12,6 @@ use Rattle.entries.specs.Refusal.{entryRefusal}
 use Rattle.rules.proofs.Buffer.{encode-length}
 use Rattle.rules.proofs.Demands.{fresh-inv}
 use Rattle.rules.proofs.Normal.{fresh-normal}
-use Rattle.rules.proofs.Ready.{Words64}
 use Rattle.rules.specs.Buffer.{encode}
 use Rattle.rules.specs.Rules.{fresh}
 use Rattle.rules.specs.Runs.{Ran}
@@ -24,11 +23,11 @@ use Rattle.runs.specs.Promises.{lengthsOk, runRefusal, runAnswer, freshR
 use Rattle.runs.specs.declared.RunAnswer.{RunAnswer}
 use Rattle.sets.proofs.Range.{range-says}
 use Rattle.sets.proofs.Tests.{passed}
-use Rattle.sets.specs.Sets.{Proper, inRange}
+use Rattle.sets.specs.Sets.{Proper, inRange, Words}
 
 module _ (t : Table) (hints b set walk : List ℕ) where
   -- no refusal: each test passed
-  pub lent-by : Words64 b → Words64 hints → Proper 256 (t .starts) → Proper 256 (t .safe) → runRefusal t hints b set walk ≡ 0 → Lent t hints b set walk
+  pub lent-by : Words b → Words hints → Proper 256 (t .starts) → Proper 256 (t .safe) → runRefusal t hints b set walk ≡ 0 → Lent t hints b set walk
   unfolding runRefusal entryRefusal
   lent-by words hint-words is ps e =
       let (lengths, rest) = none-failing _ _ _ (λ q. omega arith) e in
@@ -48,7 +47,7 @@ module _ (t : Table) (hints b set walk : List ℕ) where
 
   -- a fresh run buffer of a sound table is lent as it must be, with any hints
   pub fresh-lent : (b₀ : List ℕ) → FreshPromise (t .size) b₀ b 0 → inRange (t .size) ≡ true → length (t .rows) ≡ 1024 → soundTable t ≡ true
-      → Proper 256 (t .starts) → Proper 256 (t .safe) → Words64 hints → lengthsOk hints set walk ≡ true → Lent t hints b set walk
+      → Proper 256 (t .starts) → Proper 256 (t .safe) → Words hints → lengthsOk hints set walk ≡ true → Lent t hints b set walk
   fresh-lent b₀ p range rows sound is ps hint-words lengths =
       let big : t .size ≤ 256 = passed (range-says (t .size)) range .1 in
       let e : b ≡ encode (fresh t) = rw (eq-eqb (freshRefusal (t .size) b₀) 0 (sym (p .answer))) at (p .buffer) in

@@ -8,7 +8,7 @@ use mathlib.Core.Logic.{_≢_}
 use mathlib.Core.Path.{_≡_, sym, ap, _∙_}
 use Rattle.rules.proofs.Ends.{run-none, run-done, run-open}
 use Rattle.rules.proofs.Invariant.{Open}
-use Rattle.rules.proofs.Ready.{Words64, Ready}
+use Rattle.rules.proofs.Ready.{Ready}
 use Rattle.rules.specs.Buffer.{decode}
 use Rattle.rules.specs.Rules.{conclusion, conclusionOf, unfinished}
 use Rattle.rules.specs.Runs as runs
@@ -27,6 +27,7 @@ use Rattle.runs.specs.Inner.{Stands, IsDue, Remembers, Looks, Stepped, R
 use Rattle.runs.specs.Said.{standingOf, isOpen, asRule}
 use Rattle.runs.specs.declared.Standing.{Standing}
 use Rattle.runs.specs.declared.search.Ran.{Ran}
+use Rattle.sets.specs.Sets.{Words}
 
 -- a run that has fired f rules already, taken a and used u hints
 unfoldable pub ahead : ℕ → ℕ → ℕ → runs.Ran → runs.Ran
@@ -68,7 +69,7 @@ module _ (t : Table) (ws : List ℕ) (budget : ℕ) (o : runs.Ran) (b : List ℕ
   run-concluded n = ended (run-done t (budget - f) (hintsAt ws a) (decode b) n)
 
   -- one rule more
-  pub run-goes : Words64 ws → Open t (decode b) → (f ≡ budget → ⊥) → (b′ : List ℕ) (taken used lo hi : ℕ)
+  pub run-goes : Words ws → Open t (decode b) → (f ≡ budget → ⊥) → (b′ : List ℕ) (taken used lo hi : ℕ)
       → Stepped t ws a b b′ taken used lo hi → Running t ws budget o b′ (f + 1) (a + taken) (u + used)
   run-goes w op n b′ taken used lo hi p =
       let q = step-few t ws a b b′ taken used lo hi p in
@@ -133,7 +134,7 @@ module _ {t : Table} {ws : List ℕ} {budget : ℕ} {o : runs.Ran} {b : List ℕ
       → q ≡ true → {x : Ran} {b′ : List ℕ} → RanTo o b′ x
   never-full v {rule} d {q} e y = absurd (clash y (lacks-none t b rule q (v .running .ready) d (v .opened) e))
 
-  pub goes-on : Turning t ws budget o b f a u → Words64 ws → {b′ m : List ℕ} {taken used lo hi : ℕ} → Remembers (t .size) (t .rows) m
+  pub goes-on : Turning t ws budget o b f a u → Words ws → {b′ m : List ℕ} {taken used lo hi : ℕ} → Remembers (t .size) (t .rows) m
       → Stepped t ws a b b′ taken used lo hi → Going t ws budget o b′ m (f + 1) (a + taken) (u + used) lo hi
   goes-on v words {b′} {m} {taken} {used} {lo} {hi} k p =
       let on = run-goes t ws budget o b f a u (v .running) words (v .opened) (λ e. omega (arith, v .more)) b′ taken used lo hi p in

@@ -12,7 +12,6 @@ use Rattle.rules.proofs.Keep as keeping
 use Rattle.rules.proofs.Keep.{due-is, allowed-ok, keep}
 use Rattle.rules.proofs.Normal.{fire-normal}
 use Rattle.rules.proofs.Published.{is-step}
-use Rattle.rules.proofs.Ready.{Words64}
 use Rattle.rules.specs.Buffer.{encode, decode, Normal}
 use Rattle.rules.specs.Rules.{conclusion, due, allowed, fire, State, Standing, safe, reached, unfinished, noRoom, Rule, Unfold, Candidate, Decide, Conflict}
 use Rattle.rules.specs.Runs.{asks, willDo, lacksRoom}
@@ -24,7 +23,7 @@ use Rattle.runs.specs.Said.{saidOne}
 use Rattle.runs.specs.declared.Asked.{Asked}
 use Rattle.sets.proofs.Members.{proper-sound, proper-empty}
 use Rattle.sets.proofs.Tests.{and-true}
-use Rattle.sets.specs.Sets.{Set, empty, sound, Proper}
+use Rattle.sets.specs.Sets.{Set, empty, sound, Proper, Words}
 
 -- a rule was fired: nothing was refused before, and the rules gave this
 pub record Gave (n : ℕ) (a : Answer Fired) (rule : Rule) : Type 0 where
@@ -88,7 +87,7 @@ module _ (t : Table) where
     after-normal Conflict d e = fire-normal t big Conflict s z v m d (proper-sound (t .size) big z own (and-true (sound (t .size) z) _ e .0))
 
 -- a single rule that was fired, of a table and a set in words
-pub single-demand : (t : Table) (z : Set) (b b′ : List ℕ) (r : Asked) (rule : Rule) → Words64 b → Proper 256 (t .starts) → Proper 256 (t .safe)
+pub single-demand : (t : Table) (z : Set) (b b′ : List ℕ) (r : Asked) (rule : Rule) → Words b → Proper 256 (t .starts) → Proper 256 (t .safe)
     → Proper 256 z → SinglePromise t z b b′ r → saidOne r ≡ given rule → SingleDemand t z b b′ rule
 unfolding singleBuffer
 single-demand t z b b′ r rule words is ps own p e =

@@ -1,11 +1,11 @@
 -- What is proved of the promises of `fresh`, `single` and `run`: they meet the demands of specs/Demands.antt. proofs/Meets.antt proves it.
-use Prim.Native.Nat.{ℕ, _^_, _<_}
+use Prim.Native.Nat.{ℕ}
 use mathlib.Core.Bool.{true}
 use mathlib.Core.List.{List}
 use mathlib.Core.Path.{_≡_}
-use lib.ListN.{length, getD}
+use lib.ListN.{length}
 use Rattle.answers.specs.Answer.{given}
-use Rattle.sets.specs.Sets.{Set, Proper, inRange}
+use Rattle.sets.specs.Sets.{Set, Proper, Words, inRange}
 use Rattle.rules.specs.Rules.{Rule}
 use Rattle.rules.specs.Table.{Table, soundTable}
 use Rattle.runs.specs.declared.Asked.{Asked}
@@ -13,10 +13,6 @@ use Rattle.runs.specs.declared.RunAnswer.{RunAnswer}
 use Rattle.runs.specs.Demands.{Lent, Known, RunDemand2, RunDemand3, SingleDemand, SameVerdict}
 use Rattle.runs.specs.Promises.{lengthsOk, FreshPromise, SinglePromise, RunPromise}
 use Rattle.runs.specs.Said.{saidOne}
-
--- words of 64 bits, as lent ones always are
-abbrev pub Words : List ℕ → Type 0
-Words b = (i : ℕ) → getD b i 0 < 2 ^ 64
 
 pub record Meets (t : Table) : Type 0 where
   -- `run`, where all was lent as it must be

@@ -7,4 +7,5 @@ pub mod Within
 pub mod Count
 pub mod Words
 pub mod Range
+pub mod Answers
 pub mod Unique

@@ -7,7 +7,7 @@ use mathlib.Core.Path.{_≡_, refl, sym, ap, _∙_}
 use mathlib.Core.Logic.{inl, inr}
 use mathlib.Core.List.{List, [], _∷_, _++_}
 use lib.ListN.{length, getD, set, length-set, List·getD-eq-default}
-use lib.Seq.{ext-getD, getD-set-same, getD-set-other}
+use lib.Seq.{sets, ext-getD, getD-set-same, getD-set-other}
 use Rattle.sets.specs.Lists.{tabulate}
 use Rattle.sets.proofs.Tests.{same-or}
 
@@ -63,3 +63,22 @@ module _ {A : Type 0} where
 
   pub fill-all : (d : A) (h : ℕ → A) (l x : List A) (i n : ℕ) → Filled d h l x i → n ≤ i → length l ≡ n → x ≡ tabulate n h
   fill-all d h l x i n f m e = is-tabulate d n h x (f .same ∙ e) (λ j k. f .at j (omega arith))
+
+-- ---- a list put into another at a place
+module _ {A : Type 0} (d : A) where
+  pub sets-before : (x l : List A) (i j : ℕ) → j < i → getD (sets l i x) j d ≡ getD l j d
+  sets-before [] l i j h = refl
+  sets-before (a ∷ x) l i j h = sets-before x (set l i a) (suc i) j (omega arith) ∙ getD-set-other l i j a d (λ q. omega arith)
+
+  pub sets-after : (x l : List A) (i j : ℕ) → i + length x ≤ j → getD (sets l i x) j d ≡ getD l j d
+  sets-after [] l i j h = refl
+  sets-after (a ∷ x) l i j h = sets-after x (set l i a) (suc i) j (omega arith) ∙ getD-set-other l i j a d (λ q. omega arith)
+
+  pub sets-at : (x l : List A) (i q : ℕ) → q < length x → i + q < length l → getD (sets l i x) (i + q) d ≡ getD x q d
+  sets-at [] l i q h m = absurd (omega arith)
+  sets-at (a ∷ x) l i zero h m =
+      let e : i + 0 ≡ i = omega arith in
+      rw e (sets-before x (set l i a) (suc i) i (omega arith) ∙ getD-set-same l i a d (omega arith))
+  sets-at (a ∷ x) l i (suc q) h m =
+      let e : i + suc q ≡ suc i + q = omega arith in
+      rw e (sets-at x (set l i a) (suc i) q (omega arith) (omega (arith, length-set l i a)))

@@ -8,7 +8,7 @@ use mathlib.Core.Logic.{inl, inr}
 use mathlib.Core.Bool.{Bool, true, false, not, _&&_, _||_}
 use mathlib.Core.Option.{Option, none, some}
 use Rattle.sets.specs.Search.{orElse, least, found, any, all, sum}
-use Rattle.sets.proofs.Tests.{Says, pass, fail, fails, clash, not-true, not-false, lt-or-ge}
+use Rattle.sets.proofs.Tests.{Says, pass, fail, passes, fails, clash, not-true, not-false, lt-or-ge}
 
 -- ---- the least
 pub data Least (n : ℕ) (p : ℕ → Bool) : Option ℕ → Type 0 where
@@ -107,6 +107,14 @@ all-more n p h e = rw (add-one, all-suc, h, e)
 
 pub all-stop : (n : ℕ) (p : ℕ → Bool) (i : ℕ) → i < n → p i ≡ false → all n p ≡ false
 all-stop n p i l e = fails (all-says n p) (λ h. clash (h i l) e)
+
+pub all-true : {n : ℕ} {p : ℕ → Bool} → ((i : ℕ) → i < n → p i ≡ true) → all n p ≡ true
+all-true {n} {p} h = passes (all-says n p) (λ w. clash (h (w .0) (w .1)) (w .2))
+
+pub any-ext : (n : ℕ) (p q : ℕ → Bool) → ((i : ℕ) → i < n → p i ≡ q i) → any n p ≡ any n q
+unfolding any least found
+any-ext zero p q h = refl
+any-ext (suc n) p q h = any-suc n p ∙ ap₂ _||_ (any-ext n p q (λ i l. h i (omega arith))) (h n (omega arith)) ∙ sym (any-suc n q)
 
 pub all-ext : (n : ℕ) {p q : ℕ → Bool} → ((i : ℕ) → i < n → p i ≡ q i) → all n p ≡ all n q
 all-ext zero {p} {q} h = all-none p ∙ sym (all-none q)

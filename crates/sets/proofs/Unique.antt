@@ -5,8 +5,8 @@ use mathlib.Core.Bool.{Bool}
 use mathlib.Core.List.{List}
 use lib.Seq.{sets}
 use Rattle.answers.proofs.Unique.{only}
-use Rattle.sets.specs.Sets.{Set, member, within, sound, meet, join, minus, with, count, smallest, inRange, quad}
-use Rattle.sets.specs.Said.{said, IsFull}
+use Rattle.sets.specs.Sets.{Set, member, within, sound, meet, join, minus, with, without, count, smallest, inRange, quad}
+use Rattle.sets.specs.Said.{said, Answers, IsFull}
 use Rattle.sets.specs.declared.StateSet.{StateSet}
 use Rattle.sets.specs.declared.SetAnswer.{SetAnswer}
 use Rattle.sets.specs.declared.Smallest.{Smallest}
@@ -15,6 +15,10 @@ use Rattle.sets.specs.declared.Smallest.the-variants.{Member, Nothing}
 -- a promise of a set's words
 pub only-set : {w : Set} {x y : StateSet} → x .words ≡ w → y .words ≡ w → x ≡ y
 only-set p q = λ i. record { words = only p q i }
+
+-- a promise of a refusal or a set
+pub answers-once : {no : ℕ} {result : Set} {a b : SetAnswer} → Answers no result a → Answers no result b → a ≡ b
+answers-once p q = λ i. record { refusal = only (p .refusal) (q .refusal) i; set = only-set (p .set) (q .set) i }
 
 -- no two answers of `smallest` say the same
 pub said-one : (a b : Smallest) → said a ≡ said b → a ≡ b
@@ -55,6 +59,9 @@ minus-once x y = only-set
 
 pub with-once : (x : Set) (s : ℕ) {a b : StateSet} → a .words ≡ with 256 x s → b .words ≡ with 256 x s → a ≡ b
 with-once x s = only-set
+
+pub without-once : (x : Set) (s : ℕ) {a b : StateSet} → a .words ≡ without 256 x s → b .words ≡ without 256 x s → a ≡ b
+without-once x s = only-set
 
 pub read-once : (l : List ℕ) (i : ℕ) {a b : StateSet} → a .words ≡ quad l i → b .words ≡ quad l i → a ≡ b
 read-once l i = only-set

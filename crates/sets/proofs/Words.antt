@@ -5,7 +5,7 @@ use native.Mathlib.Numerals.{add-one}
 use native.Mathlib.Omega.{arith}
 use mathlib.Core.Path.{_≡_, refl, sym, ap, ap₂, _∙_}
 use mathlib.Core.Logic.{_⊎_, inl, inr, _≢_}
-use mathlib.Core.Bool.{Bool, true, false, not, _&&_, _||_, or-false}
+use mathlib.Core.Bool.{Bool, true, false, not, _&&_, _||_, or-false, and-true}
 use mathlib.Core.List.{List, [], _∷_}
 use mathlib.Core.Option.{some, none}
 use borrow.Author.Tests.{eq-eqb, ne-eqb}
@@ -18,7 +18,7 @@ use lib.Seq.{ext-getD, sets, sets-eq, take-at, set-out, drop-cons, getD-set-same
 use mir.Syntax.{w64}
 use mir.Val.{Fits}
 use Rattle.sets.specs.Search.{sum}
-use Rattle.sets.specs.Sets.{Set, Proper, empty, digit, bit, member, wordOf, setOf, full, within, meet, join, minus, with, count, smallest, quad}
+use Rattle.sets.specs.Sets.{Set, Proper, empty, digit, bit, member, wordOf, setOf, full, within, meet, join, minus, with, without, count, smallest, quad}
 use Rattle.sets.proofs.Bits.{bit-and, bit-or, bit-zero, bit-not, bit-shift, bit-power, eqb-odd, pack-true, ones-sum, First, trailing-first}
 use Rattle.sets.proofs.Members.{proper-four, proper-of, proper-ext, proper-empty, proper-length, proper-word, member-of, member-empty}
 use Rattle.sets.proofs.Members.{member-minus, member-word, set-ext}
@@ -80,10 +80,15 @@ join-words = zip-set bitOr _||_ (or-lt 64) (λ a b i l m. bit-or a b i)
 abbrev pub butNot : ℕ → ℕ → ℕ
 butNot a b = bitAnd a (2 ^ 64 - 1 - b)
 
+but-not-lt : (a b : ℕ) → a < 2 ^ 64 → b < 2 ^ 64 → butNot a b < 2 ^ 64
+but-not-lt a b l m = and-lt 64 a (2 ^ 64 - 1 - b) l (omega arith)
+
+pub but-not-bit : (a b i : ℕ) → b < 2 ^ 64 → i < 64 → bit (butNot a b) i ≡ (bit a i && not (bit b i))
+but-not-bit a b i l m = bit-and a (2 ^ 64 - 1 - b) i ∙ ap (λ c. bit a i && c) (bit-not 64 b i l m)
+
 pub minus-words : (x y : Set) → Proper 256 x → Proper 256 y → zip butNot x y ≡ minus 256 x y
 unfolding minus
-minus-words = zip-set butNot (λ a b. a && not b) (λ a b l m. and-lt 64 a (2 ^ 64 - 1 - b) l (omega arith))
-    (λ a b i l m. bit-and a (2 ^ 64 - 1 - b) i ∙ ap (λ c. bit a i && c) (bit-not 64 b i l m))
+minus-words = zip-set butNot (λ a b. a && not b) but-not-lt but-not-bit
 
 -- ---- within: nothing is left of x without y
 or-le : (a b : ℕ) → a ≤ bitOr a b
@@ -139,7 +144,7 @@ module _ (x y : Set) where
           (rw e (member-minus 256 (omega arith) x y (w .who) (w .below) ∙ rw (w .is, w .not)))
           (no-members z q (w .who) (w .below)))
 
--- ---- one member, and one member more
+-- ---- one member, one member more, one member less
 pub member-code : (x : Set) (s : ℕ) → eqb (bitAnd (getD x (s / 64) 0 / 2 ^ (s % 64)) 1) 1 ≡ member x s
 unfolding member
 member-code x s =
@@ -150,56 +155,84 @@ member-code x s =
 pub one-shl : (k : ℕ) → k < 64 → 1 * 2 ^ k % 18446744073709551616 ≡ 2 ^ k
 one-shl k h = shl-exact {a = 1} 1 k 64 (lit< tt) (omega arith) ∙ one-mul (2 ^ k)
 
-shift-lt : (k : ℕ) → k < 64 → 2 ^ k < 2 ^ 64
+pub shift-lt : (k : ℕ) → k < 64 → 2 ^ k < 2 ^ 64
 shift-lt k h = pow-lt h
 
-same-state : (s u : ℕ) → u / 64 ≡ s / 64 → eqb (u % 64) (s % 64) ≡ eqb u s
+pub same-state : (s u : ℕ) → u / 64 ≡ s / 64 → eqb (u % 64) (s % 64) ≡ eqb u s
 same-state s u e = go (eqb-says u s)
   where
     go : {b : Bool} → Says (u ≡ s) (u ≢ s) b → eqb (u % 64) (s % 64) ≡ b
     go (pass q) = eq-eqb _ _ (ap (λ (v : ℕ). v % 64) q)
     go (fail n) = ne-eqb _ _ (λ (r : u % 64 ≡ s % 64). let q : u ≡ s = omega arith in n q)
 
-module _ (x : Set) (s : ℕ) (hx : Proper 256 x) where
-  abbrev more : Set
-  more = set x (s / 64) (bitOr (getD x (s / 64) 0) (2 ^ (s % 64)))
+-- another word in the place of s: the set of a test that says what its bits say there, and elsewhere what x holds
+module _ (x : Set) (s v : ℕ) (hx : Proper 256 x) (l : s < 256) (fits : v < 2 ^ 64) where
+  word-fits : (j : ℕ) → (j ≡ s / 64) ⊎ (j ≢ s / 64) → j < 4 → getD (set x (s / 64) v) j 0 < 2 ^ 64
+  word-fits j (inl q) m = rw (q, getD-set-same x (s / 64) v 0 (omega (arith, proper-length 256 x hx))) fits
+  word-fits j (inr n) m = rw (getD-set-other x (s / 64) j v 0 n) (proper-word x hx j m)
 
-  more-at : (l : s < 256) (j : ℕ) → (j ≡ s / 64) ⊎ (j ≢ s / 64) → j < 4 → getD more j 0 < 2 ^ 64
-  more-at l j (inl q) m =
-      rw (q, getD-set-same x (s / 64) (bitOr (getD x (s / 64) 0) (2 ^ (s % 64))) 0 (omega (arith, proper-length 256 x hx)))
-      (or-lt 64 _ _ (proper-word x hx (s / 64) (omega arith)) (shift-lt (s % 64) (omega arith)))
-  more-at l j (inr n) m = rw (getD-set-other x (s / 64) j (bitOr (getD x (s / 64) 0) (2 ^ (s % 64))) 0 n) (proper-word x hx j m)
-
-  more-member : (l : s < 256) (u : ℕ) → u < 256 → (u / 64 ≡ s / 64) ⊎ (u / 64 ≢ s / 64) → member more u ≡ (member x u || eqb u s)
-  unfolding member
-  more-member l u m (inl q) =
-      ap (λ (j : ℕ). bit (getD more j 0) (u % 64)) q
-      ∙ ap (λ (v : ℕ). bit v (u % 64)) (getD-set-same x (s / 64) _ 0 (omega (arith, proper-length 256 x hx)))
-      ∙ bit-or (getD x (s / 64) 0) (2 ^ (s % 64)) (u % 64)
-      ∙ ap₂ (λ (a b : Bool). a || b) (ap (λ (j : ℕ). bit (getD x j 0) (u % 64)) (sym q)) (bit-power (s % 64) (u % 64) ∙ same-state s u q)
-  more-member l u m (inr n) =
-      ap (λ (v : ℕ). bit v (u % 64)) (getD-set-other x (s / 64) (u / 64) _ 0 n)
-      ∙ sym (or-false (member x u)) ∙ ap (λ (b : Bool). member x u || b) (sym (ne-eqb u s (λ q. n (ap (λ (v : ℕ). v / 64) q))))
-
-  more-proper : s < 256 → Proper 256 more
-  more-proper l =
-      rw (four-of more (length-set x (s / 64) _ ∙ proper-length 256 x hx))
+  changed-proper : Proper 256 (set x (s / 64) v)
+  changed-proper =
+      rw (four-of (set x (s / 64) v) (length-set x (s / 64) v ∙ proper-length 256 x hx))
       (proper-four _ _ _ _ (word 0 (omega arith)) (word 1 (omega arith)) (word 2 (omega arith)) (word 3 (omega arith)))
     where
-      word : (j : ℕ) → j < 4 → getD more j 0 < 2 ^ 64
-      word j m = more-at l j (same-or j (s / 64)) m
+      word : (j : ℕ) → j < 4 → getD (set x (s / 64) v) j 0 < 2 ^ 64
+      word j m = word-fits j (same-or j (s / 64)) m
+
+  changed : (p : ℕ → Bool) → ((u : ℕ) → u / 64 ≡ s / 64 → bit v (u % 64) ≡ p u) → ((u : ℕ) → u ≢ s → member x u ≡ p u)
+      → set x (s / 64) v ≡ setOf 256 p
+  unfolding member
+  changed p in-word elsewhere =
+      proper-ext 256 (omega arith) changed-proper (proper-of 256 (omega arith) p)
+      (λ u m. at u (same-or (u / 64) (s / 64)) ∙ sym (member-of 256 (omega arith) p u m))
+    where
+      at : (u : ℕ) → (u / 64 ≡ s / 64) ⊎ (u / 64 ≢ s / 64) → member (set x (s / 64) v) u ≡ p u
+      at u (inl q) =
+          ap (λ (j : ℕ). bit (getD (set x (s / 64) v) j 0) (u % 64)) q
+          ∙ ap (λ (w : ℕ). bit w (u % 64)) (getD-set-same x (s / 64) v 0 (omega (arith, proper-length 256 x hx)))
+          ∙ in-word u q
+      at u (inr n) =
+          ap (λ (w : ℕ). bit w (u % 64)) (getD-set-other x (s / 64) (u / 64) v 0 n)
+          ∙ elsewhere u (λ q. n (ap (λ (w : ℕ). w / 64) q))
+
+module _ (x : Set) (s : ℕ) (hx : Proper 256 x) where
+  -- of the bits of its word, 2 ^ (s % 64) holds that of s alone
+  its-bit : (u : ℕ) → u / 64 ≡ s / 64 → bit (2 ^ (s % 64)) (u % 64) ≡ eqb u s
+  its-bit u q = bit-power (s % 64) (u % 64) ∙ same-state s u q
+
+  word-of : (u : ℕ) → u / 64 ≡ s / 64 → bit (getD x (s / 64) 0) (u % 64) ≡ member x u
+  unfolding member
+  word-of u q = ap (λ (j : ℕ). bit (getD x j 0) (u % 64)) (sym q)
+
+  with-other : (u : ℕ) → u ≢ s → member x u ≡ (member x u || eqb u s)
+  with-other u n = sym (or-false (member x u)) ∙ ap (λ (b : Bool). member x u || b) (sym (ne-eqb u s n))
+
+  without-other : (u : ℕ) → u ≢ s → member x u ≡ (member x u && not (eqb u s))
+  without-other u n = sym (and-true (member x u)) ∙ ap (λ (b : Bool). member x u && not b) (sym (ne-eqb u s n))
 
   pub with-words : s < 256 → set x (s / 64) (bitOr (getD x (s / 64) 0) (2 ^ (s % 64))) ≡ with 256 x s
   unfolding with
   with-words l =
-      proper-ext 256 (omega arith) (more-proper l) (proper-of 256 (omega arith) (λ u. member x u || eqb u s))
-      (λ u m. more-member l u m (same-or (u / 64) (s / 64)) ∙ sym (member-of 256 (omega arith) (λ u. member x u || eqb u s) u m))
+      changed x s _ hx l (or-lt 64 _ _ (proper-word x hx (s / 64) (omega arith)) (shift-lt (s % 64) (omega arith))) _
+      (λ u q. bit-or (getD x (s / 64) 0) (2 ^ (s % 64)) (u % 64) ∙ ap₂ _||_ (word-of u q) (its-bit u q))
+      with-other
 
-  -- a number from 256 up adds nothing
+  pub without-words : s < 256 → set x (s / 64) (butNot (getD x (s / 64) 0) (2 ^ (s % 64))) ≡ without 256 x s
+  unfolding without
+  without-words l =
+      changed x s _ hx l (but-not-lt _ _ (proper-word x hx (s / 64) (omega arith)) (shift-lt (s % 64) (omega arith))) _
+      (λ u q. but-not-bit (getD x (s / 64) 0) (2 ^ (s % 64)) (u % 64) (shift-lt (s % 64) (omega arith)) (omega arith)
+      ∙ ap₂ (λ (a b : Bool). a && not b) (word-of u q) (its-bit u q))
+      without-other
+
+  -- a number from 256 up is no member, and adds nothing
   pub with-nothing : 256 ≤ s → x ≡ with 256 x s
   unfolding with
-  with-nothing l =
-      sym (hx .is) ∙ set-ext 256 _ _ (λ u m. sym (or-false (member x u)) ∙ ap (λ (b : Bool). member x u || b) (sym (ne-eqb u s (λ (q : u ≡ s). omega arith))))
+  with-nothing l = sym (hx .is) ∙ set-ext 256 _ _ (λ u m. with-other u (λ (q : u ≡ s). omega arith))
+
+  pub without-nothing : 256 ≤ s → x ≡ without 256 x s
+  unfolding without
+  without-nothing l = sym (hx .is) ∙ set-ext 256 _ _ (λ u m. without-other u (λ (q : u ≡ s). omega arith))
 
 -- ---- the full set
 abbrev pub onesFrom : ℕ → ℕ → ℕ

@@ -3,7 +3,9 @@ use Prim.Native.Nat.{ℕ}
 use mathlib.Core.Bool.{cond}
 use mathlib.Core.Option.{Option, none, some}
 use mathlib.Core.Path.{_≡_}
-use Rattle.sets.specs.Sets.{empty, full, inRange, sizeRefusal}
+use lib.Dec.{eqb}
+use Rattle.answers.specs.Refusals.{noRefusal}
+use Rattle.sets.specs.Sets.{Set, empty, full, inRange, sizeRefusal}
 use Rattle.sets.specs.declared.Smallest.{Smallest}
 use Rattle.sets.specs.declared.Smallest.the-variants.{Member, Nothing}
 use Rattle.sets.specs.declared.SetAnswer.{SetAnswer}
@@ -12,6 +14,11 @@ use Rattle.sets.specs.declared.SetAnswer.{SetAnswer}
 abbrev pub said : Smallest → Option ℕ
 said (Member s) = some s
 said Nothing = none
+
+-- a refusal's number, 0 for none, and a set, the empty one where refused
+pub record Answers (refusal-is : ℕ) (result : Set) (r : SetAnswer) : Type 0 where
+  pub refusal : r .refusal ≡ refusal-is
+  pub set : r .set .words ≡ cond (eqb refusal-is noRefusal) result empty
 
 -- the full set of N states, or refusal 2 and the empty set
 pub record IsFull (N : ℕ) (r : SetAnswer) : Type 0 where

@@ -1,5 +1,5 @@
 -- Sets of states, as document 01 has them: four 64-bit words; state s is bit s mod 64 of word s div 64.
-use Prim.Native.Nat.{ℕ, zero, suc, _+_, _-_, _*_, _/_, _%_, min}
+use Prim.Native.Nat.{ℕ, zero, suc, _+_, _-_, _*_, _/_, _%_, _^_, _<_, min}
 use mathlib.Core.Bool.{Bool, true, false, not, _&&_, _||_, cond}
 use mathlib.Core.List.{List, [], _∷_}
 use mathlib.Core.Option.{Option}
@@ -72,9 +72,12 @@ join N x y = setOf N (λ s. member x s || member y s)
 unfoldable pub minus : ℕ → Set → Set → Set
 minus N x y = setOf N (λ s. member x s && not (member y s))
 
--- x and the state s
+-- x and the state s; x but for the state s
 unfoldable pub with : ℕ → Set → ℕ → Set
 with N x s = setOf N (λ u. member x u || eqb u s)
+
+unfoldable pub without : ℕ → Set → ℕ → Set
+without N x s = setOf N (λ u. member x u && not (eqb u s))
 
 -- the number of members below N
 unfoldable pub count : ℕ → Set → ℕ
@@ -91,6 +94,10 @@ inRange N = ltb 0 N && leb N 256
 -- the refusal of an N out of range
 unfoldable pub sizeRefusal : ℕ → ℕ
 sizeRefusal N = cond (inRange N) noRefusal outOfRange
+
+-- words of 64 bits, as lent ones always are
+abbrev pub Words : List ℕ → Type 0
+Words b = (i : ℕ) → getD b i 0 < 2 ^ 64
 
 -- the set that stands in a list of words at place i, its words 0 past the list's end
 unfoldable pub quad : List ℕ → ℕ → Set

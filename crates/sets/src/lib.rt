@@ -4,7 +4,7 @@
 // specs/Sets.antt; `256` there is the number of states that four words can hold.
 ghost use mathlib.Core.Path.{_≡_};
 ghost use lib.Seq.{sets};
-ghost use Rattle.sets.specs.Sets.{member, within, sound, meet, join, minus, with, count, smallest, inRange, quad};
+ghost use Rattle.sets.specs.Sets.{member, within, sound, meet, join, minus, with, without, count, smallest, inRange, quad};
 ghost use Rattle.sets.specs.Said.{said, IsFull};
 
 mod word;
@@ -178,6 +178,17 @@ impl StateSet {
         if s < 256 {
             let j = (s / 64) as usize;
             self.words[j] |= 1 << (s % 64);
+        }
+        self
+    }
+
+    // The members but for s; a number from 256 up is none of them.
+    pub fn without(mut self, s: u16) -> StateSet
+        ensures { λ r. ⌜ r .words ≡ without 256 (self .words) s ⌝ }
+    {
+        if s < 256 {
+            let j = (s / 64) as usize;
+            self.words[j] &= !(1 << (s % 64));
         }
         self
     }

@@ -9,7 +9,7 @@ use borrow.Author.Tests.{eq-eqb, eqb-true, lt-ltb, le-ltb, ltb-true, leb-false, 
 use lib.Dec.{eqb, leb, ltb}
 use lib.IntN.{ℤ, pos, negsuc}
 use lib.ListN.{length, getD, length-append, List·getD-eq-default}
-use Rattle.rules.specs.Table.{row, leads, soundRow, soundRows, soundTable}
+use Rattle.rules.specs.Table.{row, leads, soundRow, soundRows, soundTable, rowsOf}
 use Rattle.sets.specs.Sets.{Set, member, setOf, sound, quad, Proper}
 use Rattle.sets.proofs.Members.{proper-four, member-of, set-ext}
 use Rattle.sets.proofs.Search.{all-says}
@@ -248,7 +248,7 @@ module _ (c : Control) (h : Held c) (w : Writable c) where
       ∙ row-proper s .is
 
   rows-same : (m : ℕ) → m ≡ 16777216 → rowsOfEntries (passing (isMove (c .table .rows)) 0 m) ≡ c .table .rows
-  unfolding rowsOfEntries
+  unfolding rowsOfEntries rowsOf
   rows-same m e = sym (is-tabulate 0 1024 _ (c .table .rows) (sized-rows _ _ _ (w .lengthsOk)) (λ j l.
       let q : 4 * (j / 4) + j % 4 ≡ j = omega arith in
       sym (ap (λ (x : Set). getD x (j % 4) 0) (row-same m (j / 4) e (omega arith))

@@ -3,7 +3,7 @@ use Prim.Native.Nat.{ℕ, zero, suc, _+_, _*_, _/_, _%_, _≤_, _<_}
 use native.Mathlib.Omega.{arith}
 use mathlib.Core.Path.{_≡_, refl, sym, ap, ap₂, _∙_}
 use mathlib.Core.Logic.{_⊎_, inl, inr, _≢_}
-use mathlib.Core.Bool.{Bool, false, _||_, or-false}
+use mathlib.Core.Bool.{Bool, true, false, _||_, or-false}
 use mathlib.Core.List.{List, [], _∷_, _++_}
 use borrow.Author.Tests.{eq-eqb, ne-eqb}
 use lib.Dec.{eqb}
@@ -12,15 +12,16 @@ use lib.Signed.{mag}
 use mir.Syntax.{w16}
 use mir.Val.{toZ, ofZ}
 use mir.ValLaws.{toZ-ofZ}
-use lib.ListN.{length, getD, set, length-set}
-use lib.Seq.{sets, length-sets, ext-getD, getD-set-same, getD-set-other}
-use Rattle.rules.specs.Table.{row, withMove}
-use Rattle.sets.specs.Sets.{Set, member, setOf, empty, with, quad}
+use lib.ListN.{length, getD, set}
+use lib.Seq.{sets, length-sets, ext-getD}
+use Rattle.rules.proofs.Rows.{length-rows-of, rows-of-at, row-of}
+use Rattle.rules.specs.Table.{row, rowsOf, withMove}
+use Rattle.sets.specs.Sets.{Set, member, setOf, empty, with}
 use Rattle.sets.proofs.Members.{proper-of, proper-empty, proper-length, member-of, member-empty, proper-ext, set-ext}
 use Rattle.sets.proofs.Tests.{same-or, lt-or-ge}
-use Rattle.sets.proofs.Words.{four-of}
 use Rattle.sets.specs.Lists.{tabulate}
-use Rattle.sets.proofs.Lists.{Filled, fill-none, fill-more, fill-all, tabulate-past, length-tabulate, tabulate-at, tabulate-more, tabulate-ext}
+use Rattle.sets.proofs.Lists.{Filled, fill-none, fill-more, fill-all, tabulate-past, tabulate-at, tabulate-more, tabulate-ext}
+use Rattle.sets.proofs.Lists.{sets-before, sets-after, sets-at}
 use Rattle.tables.specs.Lists.{among}
 use Rattle.tables.specs.Format.{Kind, bits16, signed, stateEntry, state, number, moveEntry, move}
 use Rattle.tables.specs.Control.{setOfEntries, rowOfEntries, rowsOfEntries}
@@ -55,25 +56,6 @@ set-more : (vs : List ℕ) (v : ℕ) → with 256 (setOfEntries vs) v ≡ setOfE
 unfolding with setOfEntries
 set-more vs v = set-ext 256 _ _ (λ s l. ap (λ b. b || eqb s v) (member-of 256 (omega arith) (among vs) s l) ∙ sym (among-more vs v s))
 
--- ---- words written into a list
-module _ {A : Type 0} (d : A) where
-  pub sets-before : (x l : List A) (i j : ℕ) → j < i → getD (sets l i x) j d ≡ getD l j d
-  sets-before [] l i j h = refl
-  sets-before (a ∷ x) l i j h = sets-before x (set l i a) (suc i) j (omega arith) ∙ getD-set-other l i j a d (λ q. omega arith)
-
-  pub sets-after : (x l : List A) (i j : ℕ) → i + length x ≤ j → getD (sets l i x) j d ≡ getD l j d
-  sets-after [] l i j h = refl
-  sets-after (a ∷ x) l i j h = sets-after x (set l i a) (suc i) j (omega arith) ∙ getD-set-other l i j a d (λ q. omega arith)
-
-  pub sets-at : (x l : List A) (i q : ℕ) → q < length x → i + q < length l → getD (sets l i x) (i + q) d ≡ getD x q d
-  sets-at [] l i q h m = absurd (omega arith)
-  sets-at (a ∷ x) l i zero h m =
-      let e : i + 0 ≡ i = omega arith in
-      rw e (sets-before x (set l i a) (suc i) i (omega arith) ∙ getD-set-same l i a d (omega arith))
-  sets-at (a ∷ x) l i (suc q) h m =
-      let e : i + suc q ≡ suc i + q = omega arith in
-      rw e (sets-at x (set l i a) (suc i) q (omega arith) (omega (arith, length-set l i a)))
-
 -- ---- the move table
 length-row : (vs : List ℕ) (s : ℕ) → length (rowOfEntries vs s) ≡ 4
 unfolding rowOfEntries
@@ -81,31 +63,16 @@ length-row vs s = proper-length 256 _ (proper-of 256 (omega arith) (λ u. among 
 
 pub length-rows : (vs : List ℕ) → length (rowsOfEntries vs) ≡ 1024
 unfolding rowsOfEntries
-length-rows vs = length-tabulate 1024 _
+length-rows vs = length-rows-of (rowOfEntries vs)
 
 rows-at : (vs : List ℕ) (s q : ℕ) → s < 256 → q < 4 → getD (rowsOfEntries vs) (4 * s + q) 0 ≡ getD (rowOfEntries vs s) q 0
 unfolding rowsOfEntries
-rows-at vs s q h l =
-    let e : (4 * s + q) / 4 ≡ s = omega arith in
-    let f : (4 * s + q) % 4 ≡ q = omega arith in
-    tabulate-at 1024 (λ j. getD (rowOfEntries vs (j / 4)) (j % 4) 0) 0 (4 * s + q) (omega arith)
-    ∙ ap₂ (λ (x y : ℕ). getD (rowOfEntries vs x) y 0) e f
+rows-at vs s q h l = rows-of-at (rowOfEntries vs) s q h l
 
 -- row s of the table is the row of the moves from s
 pub row-is : (vs : List ℕ) (s : ℕ) → s < 256 → row (rowsOfEntries vs) s ≡ rowOfEntries vs s
-unfolding quad
-row-is vs s h =
-    let z : 4 * s ≡ 4 * s + 0 = omega arith in
-    rw (z, rows-at vs s 0 h (omega arith)) rest
-  where
-    word : ℕ → ℕ
-    word j = getD (rowsOfEntries vs) j 0
-
-    rest : getD (rowOfEntries vs s) 0 0 ∷ word (4 * s + 0 + 1) ∷ word (4 * s + 0 + 2) ∷ word (4 * s + 0 + 3) ∷ [] ≡ rowOfEntries vs s
-    rest =
-        let z : 4 * s + 0 ≡ 4 * s = omega arith in
-        rw (z, rows-at vs s 1 h (omega arith), rows-at vs s 2 h (omega arith), rows-at vs s 3 h (omega arith))
-        (sym (four-of (rowOfEntries vs s) (length-row vs s)))
+unfolding rowsOfEntries
+row-is vs s h = row-of (rowOfEntries vs) s h (length-row vs s)
 
 length-with : (x : Set) (u : ℕ) → length (with 256 x u) ≡ 4
 unfolding with
@@ -155,7 +122,7 @@ module _ (vs : List ℕ) (v : ℕ) where
         | inr a ↦ sets-after 0 new (rowsOfEntries vs) (4 * from) (4 * s + q) (omega (arith, four, n)) ∙ rows-at vs s q h l
       ])
 
-  pub rows-more : withMove (rowsOfEntries vs) from (v % 65536) ≡ rowsOfEntries (vs ++ (v ∷ []))
+  pub rows-more : withMove (rowsOfEntries vs) from (v % 65536) true ≡ rowsOfEntries (vs ++ (v ∷ []))
   unfolding withMove
   rows-more = ext-getD 0 _ _ (wide ∙ sym (length-rows (vs ++ (v ∷ [])))) at
     where
@@ -178,7 +145,7 @@ empty-at (suc (suc (suc (suc q)))) l = absurd (omega arith)
 
 -- no moves
 pub rows-none : tabulate 1024 (λ j. 0) ≡ rowsOfEntries []
-unfolding rowsOfEntries rowOfEntries among
+unfolding rowsOfEntries rowsOf rowOfEntries among
 rows-none =
     tabulate-ext 0 1024 _ _
     (λ j l. sym (empty-at (j % 4) (omega arith)) ∙ ap (λ (x : Set). getD x (j % 4) 0) (set-of-none (λ u. false) (λ u. refl)))
@@ -217,7 +184,7 @@ module _ (b : List ℕ) (start k : ℕ) (rows : List ℕ) where
 
   -- a move from s to u
   pub add-goes : (i : ℕ) → Adding b start k rows i → i < k → (s u : ℕ) → Small 65536 (bits16 b (start + i * 4)) s
-      → Small 65536 (bits16 b (start + i * 4 + 2)) u → (rows′ : List ℕ) → rows′ ≡ withMove rows s u → Adding b start k rows′ (i + 1)
+      → Small 65536 (bits16 b (start + i * 4 + 2)) u → (rows′ : List ℕ) → rows′ ≡ withMove rows s u true → Adding b start k rows′ (i + 1)
   unfolding moveEntry
   add-goes i v l s u es eu rows′ r =
       let entry = moveEntry b (start + i * 4) in

@@ -8,7 +8,7 @@ use lib.ListN.{length, getD}
 use Rattle.answers.specs.Answer.{Answer, unlessRefused}
 use Rattle.answers.specs.Refusals.{outOfRange, badLabel, wrongLength, shortOutput, notSound, _unless_, firstFailing}
 use Rattle.moves.specs.Models.{Control, control}
-use Rattle.rules.specs.Table.{table, leads, moveCount, soundTable}
+use Rattle.rules.specs.Table.{table, leads, rowsOf, moveCount, soundTable}
 use Rattle.sets.specs.Lists.{tabulate}
 use Rattle.sets.specs.Search.{all}
 use Rattle.sets.specs.Sets.{Set, member, setOf, inRange}
@@ -27,7 +27,7 @@ rowOfEntries vs s = setOf 256 (λ u. among vs (s * 65536 + u))
 
 -- the move table: 1,024 words, four to a row
 unfoldable pub rowsOfEntries : List ℕ → List ℕ
-rowsOfEntries vs = tabulate 1024 (λ j. getD (rowOfEntries vs (j / 4)) (j % 4) 0)
+rowsOfEntries vs = rowsOf (rowOfEntries vs)
 
 -- 256 angles and modes, 0 where there is no entry of a state
 unfoldable pub anglesOfEntries : List ℕ → List ℤ

@@ -9,7 +9,7 @@ ghost use Rattle.tables.specs.Inner.{Small, ToFill, values};
 use crate::entry::bits16;
 use crate::entry::signed;
 use crate::entry::wide;
-use moves::add_move;
+use moves::set_move;
 use sets::StateSet;
 
 // The set of the k numbers from a place on.
@@ -45,7 +45,7 @@ pub fn fill_moves(file: &[u8], start: usize, k: usize, moves: &mut [u64])
         let at = start + i * 4;
         let from = bits16(file, at);
         let to = bits16(file, at + 2);
-        add_move(moves, from as u16, to as u16);
+        set_move(moves, from as u16, to as u16, true);
     }
 }
 

@@ -33,6 +33,7 @@ fn made(c: u64, i: StateSet, p: StateSet, s: u16) -> StateSet {
         names::JOIN => i.join(p),
         names::MINUS => i.minus(p),
         names::WITH => i.with(s),
+        names::WITHOUT => i.without(s),
         _ => i,
     }
 }
@@ -43,7 +44,7 @@ fn answer(yes: bool) {
 
 fn sets(c: u64, i: StateSet, p: StateSet, s: u16) {
     match c {
-        names::SET | names::MEET | names::JOIN | names::MINUS | names::WITH => {
+        names::SET | names::MEET | names::JOIN | names::MINUS | names::WITH | names::WITHOUT => {
             print::set(made(c, i, p, s));
         }
         names::MEMBER => answer(i.member(s)),

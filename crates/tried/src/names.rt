@@ -48,6 +48,8 @@ pub const MINUS: u64 = 0x6d696e7573;
 
 pub const WITH: u64 = 0x77697468;
 
+pub const WITHOUT: u64 = 0x776974686f7574;
+
 pub const WITHIN: u64 = 0x77697468696e;
 
 pub const AT: u64 = 0x6174;

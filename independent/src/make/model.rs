@@ -72,6 +72,15 @@ impl Model {
         pairs
     }
 
+    /// The second table: row t holds the states with a move to t.
+    pub fn second(&self) -> Vec<u64> {
+        let mut turned = Model::blank(self.states());
+        for (from, to) in self.pairs() {
+            turned.add_move(to, from);
+        }
+        turned.moves
+    }
+
     /// Drop random moves until no more than `most` are left.
     pub fn thin_to(&mut self, random: &mut Random, most: usize) {
         let mut pairs = self.pairs();

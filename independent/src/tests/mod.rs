@@ -1,8 +1,11 @@
 //! Unit tests.
 
 mod files;
+mod kept_runs;
 mod naive;
 mod refusals;
+mod second;
+mod second_refusals;
 mod sets;
 mod slips;
 mod small_tables;

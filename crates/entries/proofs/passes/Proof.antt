@@ -5,10 +5,11 @@ use mathlib.Core.List.{List}
 use Rattle.entries.proofs.Tests.{entry-by, ranges-are, spans-by, shaped-by}
 use Rattle.moves.specs.Models.{on}
 use Rattle.rules.proofs.Chains.{chain-no, chain-on, chain-end}
-use Rattle.rules.proofs.Ready.{Words64, Spans, Shaped}
+use Rattle.rules.proofs.Ready.{Spans, Shaped}
 use Rattle.rules.specs.Table.{Table}
 use Rattle.entries.proofs.passes.Statement.{statement}
 use Rattle.entries.proofs.passes.Tie as tie
+use Rattle.sets.specs.Sets.{Words}
 
 returns : tie.Need-returns
 returns c = search (entry-by, chain-no, ranges-are, needs)
@@ -26,7 +27,7 @@ b c = start c .args .buf .now
 abbrev t : tie.Else1 → Table
 t c = on (start c .args .model) (start c .args .moves .now)
 
-words : (c : tie.Else1) → Words64 (b c)
+words : (c : tie.Else1) → Words (b c)
 words c i = c .before .before .shared-slice-known4 .given i .fits
 
 spans : (c : tie.Else1) → Spans (b c)

@@ -3,10 +3,11 @@ use borrow.Author.Needs.{needs}
 use Rattle.lampferret.proofs.lampferret_g.Statement.{statement}
 use Rattle.lampferret.proofs.lampferret_g.Tie as tie
 use Rattle.rules.specs.Table.{backward}
-use Rattle.lampferret.proofs.Giving.{moved-given}
+use Rattle.moves.specs.Said.{moveRefusal}
+use Rattle.lampferret.proofs.Giving.{given-of}
 
 returns : tie.Need-returns
-returns c = moved-given backward (c .before .before .before .set-of .ensures) (c .before .before .g .ensures) (c .give-set .ensures)
+returns c = given-of (moveRefusal _ _) (backward _ _) (c .before .before .before .set-of .ensures) (c .before .before .g .ensures) (c .give-set .ensures)
 
 pub lampferret-g-spec : {M : Type 1} → statement M
 lampferret-g-spec =

@@ -4,17 +4,18 @@ use Rattle.moves.proofs.f.Statement.{statement}
 use Rattle.moves.proofs.f.Tie as tie
 use mathlib.Core.Path.{refl, sym, _∙_}
 use Rattle.sets.specs.Sets.{empty}
+use Rattle.sets.proofs.Answers.{answers-refused, answers-set}
 use Rattle.moves.proofs.Rows.{forward-is}
-use Rattle.moves.proofs.Refused.{not-refused, answers-refused, answers-set}
+use Rattle.moves.proofs.Refused.{not-refused}
 
 returns : tie.Need-returns
 unfolding empty
-returns c = answers-refused _ _ _ _ _ (c .before .refusal .ensures) (c .if1 .taken) refl
+returns c = answers-refused _ _ _ (c .before .refusal .ensures) (c .if1 .taken) refl
 
 returns-2 : tie.Need-returns-2
 unfolding empty
 returns-2 c = let s = not-refused _ _ _ (sym (c .before .before .refusal .ensures) ∙ c .before .if1 .left) in
-    answers-set _ _ _ _ _ (c .before .before .refusal .ensures) (c .before .if1 .left) (c .forward .ensures ∙ forward-is _ _ (s .big) (s .rows-ok) _)
+    answers-set _ _ _ (c .before .before .refusal .ensures) (c .before .if1 .left) (c .forward .ensures ∙ forward-is _ _ (s .big) (s .rows-ok) _)
 
 pub f-spec : {M : Type 1} → statement M
 f-spec =

@@ -1,15 +1,15 @@
 -- `go` meets its contract: the rules are run, and the reason written.
 use borrow.Author.Needs.{needs}
-use Rattle.rules.proofs.Ready.{Words64}
 use Rattle.runs.proofs.Answers.{ended-ready, ended-stands, run-answers}
 use Rattle.runs.proofs.go.Statement.{statement}
 use Rattle.runs.proofs.go.Tie as tie
+use Rattle.sets.specs.Sets.{Words}
 
 -- the rules were run: the start, and that the hints are words
 abbrev start : tie.After-advance → tie.Start
 start c = c .before .before .before .before .before .before .before
 
-words : (c : tie.After-advance) → Words64 (start c .args .hints .now)
+words : (c : tie.After-advance) → Words (start c .args .hints .now)
 words c i = c .before .before .before .before .shared-slice-known2 .given i .fits
 
 finish-requires : tie.Need-finish-requires

@@ -21,7 +21,7 @@ loop-again c =
     let read-from = read-to .before in
     let turn = read-from .before in
     add-goes _ _ _ _ _ (turn .before .loop .inv) (turn .loop-test .taken) _ _ (read-from .bits16 .ensures) (read-to .bits162 .ensures)
-    _ (added .add-move .ensures)
+    _ (added .set-move .ensures)
 
 same-length : tie.Need-same-length Inv-loop μ-loop
 same-length c = search (add-same, needs)
