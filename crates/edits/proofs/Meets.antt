@@ -58,7 +58,7 @@ module _ (N : ℕ) (rows second : List ℕ) (rows-fit : Words rows) (second-fits
   module _ (s t : ℕ) (there : Bool) (k : Taken N rows second s t there) where
     done : Edited N rows second s t there
     done =
-        second-laws .edited N rows second s t there (omega (arith, k .lent .big)) (k .lent .rows-long) (k .lent .second-long) rows-fit second-fits
+        second-laws .edited N rows second s t there (k .lent .big) (k .lent .rows-long) (k .lent .second-long) rows-fit second-fits
         (k .agrees) (k .lent .sound) (k .from) (k .to)
 
     -- the opposite edit is taken

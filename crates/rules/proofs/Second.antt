@@ -61,11 +61,11 @@ pub second-words : (rows : List ℕ) → Words (secondOf rows)
 unfolding secondOf into
 second-words rows = words-of (λ t s. leads rows s t)
 
-pub second-agrees : (rows : List ℕ) → agree rows (secondOf rows) ≡ true
+second-agrees : (rows : List ℕ) → agree rows (secondOf rows) ≡ true
 second-agrees rows = agree-of rows (secondOf rows) (λ s t l m. sym (leads-second rows t s m l))
 
 -- .. and there is no other that agrees
-pub agrees-second : (rows second : List ℕ) → length second ≡ 1024 → Words second → agree rows second ≡ true → second ≡ secondOf rows
+agrees-second : (rows second : List ℕ) → length second ≡ 1024 → Words second → agree rows second ≡ true → second ≡ secondOf rows
 agrees-second rows second long w e =
     same-moves second (secondOf rows) long (second-length rows) w (second-words rows)
     (λ t s m l. sym (agreed-at rows second e s t l m) ∙ sym (leads-second rows t s m l))
@@ -123,7 +123,7 @@ agreed rows second long w a = record {
   row-is = λ t m. ap (λ (l : List ℕ). row l t) (agrees-second rows second long w a) ∙ second-row rows t m;
   is = agrees-second rows second long w a;
   sound = λ N e. second-sound N rows second a e;
-  same-g = λ N l x. second-g N (omega arith) rows second a x;
+  same-g = λ N big x. second-g N big rows second a x;
 }
 
 -- ---- an edit of both tables
@@ -175,7 +175,7 @@ module _ (N : ℕ) (big : N ≤ 256) (rows second : List ℕ) (s t : ℕ) (there
           let both = and-true (eqb v a) (eqb u b) q in
           rw (eqb-true v a (both .0), eqb-true u b (both .1)) (sym was)
 
-  pub edit-done : Edited N rows second s t there
+  edit-done : Edited N rows second s t there
   edit-done = record {
     this = (in-rows s t (omega arith) ∙ rw (eq-eqb s s refl, eq-eqb t t refl), in-second s t (omega arith) ∙ rw (eq-eqb s s refl, eq-eqb t t refl));
     other = λ a b l m q. (in-rows a b m ∙ rw q, in-second a b l ∙ rw q);
@@ -193,5 +193,5 @@ pub second-laws : SecondLaws
 second-laws = record {
   made = second-agrees;
   agreed = agreed;
-  edited = λ N rows second s t there big lr ls wr ws a e from to. edit-done N (omega arith) rows second s t there lr ls wr ws a e from to;
+  edited = λ N rows second s t there big lr ls wr ws a e from to. edit-done N big rows second s t there lr ls wr ws a e from to;
 }

@@ -1,6 +1,6 @@
 -- Who leads here? (document 02, 1/12): a second table of 1,024 words beside the move table, row t holding the states with a move to t; a
 -- move added or removed in both; g worked out from the second table. proofs/Second.antt proves the laws, `SecondLaws`.
-use Prim.Native.Nat.{ℕ, _<_}
+use Prim.Native.Nat.{ℕ, _≤_, _<_}
 use mathlib.Core.Bool.{Bool, true, false, not, _&&_}
 use mathlib.Core.List.{List}
 use mathlib.Core.Path.{_≡_}
@@ -44,7 +44,7 @@ pub record Agreed (rows second : List ℕ) : Type 0 where
   -- it is sound where the move table is
   pub sound : (N : ℕ) → soundRows N rows ≡ true → soundRows N second ≡ true
   -- g from it is g
-  pub same-g : (N : ℕ) → N < 257 → (x : Set) → backwardBySecond N second x ≡ backward N rows x
+  pub same-g : (N : ℕ) → N ≤ 256 → (x : Set) → backwardBySecond N second x ≡ backward N rows x
 
 -- ---- what an edit of two tables that agree leaves: the move from s to t is there or not, both below N
 pub record Edited (N : ℕ) (rows second : List ℕ) (s t : ℕ) (there : Bool) : Type 0 where
@@ -68,5 +68,5 @@ pub record SecondLaws : Type 0 where
   pub made : (rows : List ℕ) → agree rows (secondOf rows) ≡ true
   pub agreed : (rows second : List ℕ) → length second ≡ 1024 → Words second → agree rows second ≡ true → Agreed rows second
   -- an edit between two states of a sound table and its second table
-  pub edited : (N : ℕ) (rows second : List ℕ) (s t : ℕ) (there : Bool) → N < 257 → length rows ≡ 1024 → length second ≡ 1024 → Words rows → Words second
+  pub edited : (N : ℕ) (rows second : List ℕ) (s t : ℕ) (there : Bool) → N ≤ 256 → length rows ≡ 1024 → length second ≡ 1024 → Words rows → Words second
       → agree rows second ≡ true → soundRows N rows ≡ true → s < N → t < N → Edited N rows second s t there
