@@ -10,6 +10,7 @@ use lib.Dec.{eqb, leb}
 use lib.IntN.{ℤ}
 use lib.ListN.{length, drop}
 use Rattle.answers.proofs.Order.{numbersIn, failing-in}
+use Rattle.answers.proofs.Values.{no-value}
 use Rattle.answers.specs.Answer.{Answer, refused, given, unlessRefused}
 use Rattle.answers.specs.Refusals.{oneOf, noRoom, firstFailing}
 use Rattle.sets.specs.Sets.{Set, inRange, sizeRefusal}
@@ -42,9 +43,6 @@ use Rattle.lampferret.specs.Refused.{Demand1, Demand1Boundary}
 one : {A : Type 0} {k m : ℕ} → _≡_ {A = Answer A} (refused k) (refused m) → k ≡ m
 one e = cc
 
-never : {A : Type 0} {k : ℕ} {a : A} {B : Type 0} → refused k ≡ given a → B
-never e = let z : _≡_ {A = ℕ} 0 1 = cc in absurd (omega arith)
-
 -- ---- sets and turns
 full-number : (N : ℕ) → sizeRefusal N ≢ 0 → oneOf (2 ∷ []) (sizeRefusal N) ≡ true
 unfolding sizeRefusal oneOf
@@ -59,7 +57,7 @@ unfolding turnOf oneOf
 turn-number a b k e = go (isAngle a && isAngle b) e
   where
     go : (c : Bool) → cond c (given (between a b)) (refused 3) ≡ refused k → oneOf (3 ∷ []) k ≡ true
-    go true q = never (sym q)
+    go true q = no-value (sym q)
     go false q = rw (← (one q))
 
 -- ---- refusals that are lists of tests: the numbers of the tests
@@ -112,7 +110,7 @@ reached-number walk angles modes states h = failing-in (7 ∷ 2 ∷ 12 ∷ []) _
 -- a value unless refused
 unless-refused : {A : Type 0} (n : ℕ) (a : A) {k : ℕ} → unlessRefused n a ≡ refused k → (n ≢ 0) × (k ≡ n)
 unfolding unlessRefused
-unless-refused zero a e = never (sym e)
+unless-refused zero a e = no-value (sym e)
 unless-refused (suc n) a e = (λ q. omega arith, sym (one e))
 
 -- ---- a single rule
@@ -126,7 +124,7 @@ single-number t s z k e = go (conclusion t s) (lacksRoom t s) (takes t s z) refl
     go rules.noRoom l m ec el em = rw (← (one (rw (ec, single) at e)))
     go unfinished true m ec el em = rw (← (one (rw (ec, el, single) at e)))
     go unfinished false false ec el em = rw (← (one (rw (ec, el, em, single) at e)))
-    go unfinished false true ec el em = never (sym (rw (ec, el, em, single) at e))
+    go unfinished false true ec el em = no-value (sym (rw (ec, el, em, single) at e))
 
 wider : (k : ℕ) → oneOf (7 ∷ 2 ∷ 13 ∷ 8 ∷ []) k ≡ true → oneOf (7 ∷ 2 ∷ 13 ∷ 8 ∷ 10 ∷ 11 ∷ 9 ∷ []) k ≡ true
 unfolding oneOf
@@ -148,7 +146,7 @@ single-refused t z b b′ k e q = go (entryRefusal t b) (single t (decode b) z) 
         → (oneOf (7 ∷ 2 ∷ 13 ∷ 8 ∷ 10 ∷ 11 ∷ 9 ∷ []) k ≡ true) × (b′ ≡ b)
     go (suc n) a en ea e q = (wider k (rw (en ∙ one e) at (entry-number t b (λ z. omega arith))), q)
     go zero (refused m) en ea e q = (rw (one e) at (single-number t (decode b) z m ea), q)
-    go zero (given f) en ea e q = never (sym e)
+    go zero (given f) en ea e q = no-value (sym e)
 
 -- ---- a run
 is-11 : oneOf (7 ∷ 2 ∷ 13 ∷ 8 ∷ 11 ∷ []) 11 ≡ true
@@ -166,9 +164,9 @@ run-refused t hints b b′ set set′ walk walk′ o r k p e =
         → b′ ≡ cond (ran n c) (encode (o .state)) b → set′ ≡ setAfter n c (o .state) set → walk′ ≡ walkAfter t n c (o .state) walk
         → (oneOf (7 ∷ 2 ∷ 13 ∷ 8 ∷ 11 ∷ []) k ≡ true) × (b′ ≡ b) × (set′ ≡ set) × (walk′ ≡ walk)
     go (suc n) c en ec q qb qs qw = (rw (en ∙ one q) at (run-number t hints b set walk (λ z. omega arith)), qb, qs, qw)
-    go zero (safe j) en ec q qb qs qw = never (sym q)
-    go zero reached en ec q qb qs qw = never (sym q)
-    go zero unfinished en ec q qb qs qw = never (sym q)
+    go zero (safe j) en ec q qb qs qw = no-value (sym q)
+    go zero reached en ec q qb qs qw = no-value (sym q)
+    go zero unfinished en ec q qb qs qw = no-value (sym q)
     go zero rules.noRoom en ec q qb qs qw = (eleven k (one q), qb, qs, qw)
       where
         eleven : (k : ℕ) → 11 ≡ k → oneOf (7 ∷ 2 ∷ 13 ∷ 8 ∷ 11 ∷ []) k ≡ true
@@ -203,7 +201,7 @@ writing-refused c out out′ k e q = go (writing c (length out)) refl e q
     go : (a : Answer (List ℕ)) → writing c (length out) ≡ a → lengthOf a ≡ refused k → out′ ≡ putIn a out
         → (oneOf (7 ∷ 2 ∷ 13 ∷ 3 ∷ 12 ∷ []) k ≡ true) × (out′ ≡ out)
     go (refused m) ea e q = let (n, same) = unless-refused _ _ ea in (rw (← (one e), same) (write-number c (length out) n), q)
-    go (given b) ea e q = never (sym e)
+    go (given b) ea e q = no-value (sym e)
 
 -- ---- listings
 listing-refused : (wanted : Answer (List ℕ)) (ns out out′ : List ℕ) (k : ℕ) → oneOf ns 12 ≡ true → ((m : ℕ) → wanted ≡ refused m → oneOf ns m ≡ true)
@@ -214,7 +212,7 @@ listing-refused (given bytes) ns out out′ k twelve h e q = go (leb (length byt
   where
     go : (b : Bool) → leb (length bytes) (length out) ≡ b → cond b (given (length bytes)) (refused 12) ≡ refused k
         → out′ ≡ cond b (bytes ++ drop (length bytes) out) out → (oneOf ns k ≡ true) × (out′ ≡ out)
-    go true eb e q = never (sym e)
+    go true eb e q = no-value (sym e)
     go false eb e q = (rw (one e) at twelve, q)
 
 is-12 : oneOf (12 ∷ []) 12 ≡ true
@@ -254,7 +252,7 @@ demand-1 =
       section = section-number;
       read = read-refused;
       write = λ c out out′ r k p e. writing-refused c out out′ k (sym (p .answer) ∙ e) (p .output);
-      list = λ bytes out out′ r k p e. listing-refused (given bytes) _ out out′ k is-12 (λ m q. never (sym q)) (sym (p .answer) ∙ e) (p .output);
+      list = λ bytes out out′ r k p e. listing-refused (given bytes) _ out out′ k is-12 (λ m q. no-value (sym q)) (sym (p .answer) ∙ e) (p .output);
       list-reached = λ c rules walk states out out′ r k p e.
           listing-refused _ _ out out′ k last-12 (reached-refused c rules walk states) (sym (p .answer) ∙ e) (p .output);
     }
@@ -271,7 +269,7 @@ kept-refused (suc k) x old new e h = e
 
 in-words : {A B : Type 0} (f : A → B) (a : Answer A) (k : ℕ) → inWords f a ≡ refused k → a ≡ refused k
 in-words f (refused m) k e = ap refused (one e)
-in-words f (given a) k e = never (sym e)
+in-words f (given a) k e = no-value (sym e)
 
 pub demand-1-boundary : Demand1Boundary
 demand-1-boundary =
@@ -314,6 +312,6 @@ demand-1-boundary =
           (n, same, q);
       check = λ bytes out out′ old new r p h.
           let (e, q) = gives-refused _ old new r (p .answer) h in
-          let (n, same) = listing-refused (given bytes) _ out out′ r is-12 (λ m z. never (sym z)) e (p .output) in
+          let (n, same) = listing-refused (given bytes) _ out out′ r is-12 (λ m z. no-value (sym z)) e (p .output) in
           (n, same, q);
     }

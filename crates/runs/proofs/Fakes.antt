@@ -5,7 +5,8 @@ use mathlib.Core.List.{List}
 use mathlib.Core.Logic.{_⊎_, inl, inr}
 use mathlib.Core.Path.{_≡_, refl, sym, ap, _∙_}
 use lib.ListN.{getD}
-use Rattle.answers.specs.Answer.{refused, given}
+use Rattle.answers.proofs.Values.{no-value}
+use Rattle.answers.specs.Answer.{given}
 use Rattle.rules.proofs.Ends.{weight}
 use Rattle.rules.proofs.Published.{lighter}
 use Rattle.rules.specs.Buffer.{decode}
@@ -18,10 +19,6 @@ use Rattle.runs.specs.Fakes.{Fakes, StoredWalk}
 use Rattle.runs.specs.Said.{Outcome, not-ended, said}
 use Rattle.runs.specs.declared.Outcome as outcome
 use Rattle.runs.specs.declared.RunAnswer.{RunAnswer}
-
--- a refusal is no value
-no-value : {A : Type 0} {k : ℕ} {a : A} → refused k ≡ given a → ⊥
-no-value e = let z : _≡_ {A = ℕ} 0 1 = cc in omega arith
 
 not-refused : (r : RunAnswer) → Refuses r → Ends r → ⊥
 not-refused r (k, e) (inl (j, q)) = no-value (sym e ∙ q)

@@ -1,9 +1,9 @@
 -- What a single rule leaves: a published step, and a buffer that passes the entry check again, whatever set is proposed.
 use Prim.Native.Nat.{ℕ, zero, suc, _≤_}
-use native.Mathlib.Omega.{arith}
 use mathlib.Core.Bool.{Bool, true, false, not, _&&_, _||_}
 use mathlib.Core.List.{List}
 use mathlib.Core.Path.{_≡_, refl, sym, ap, _∙_}
+use Rattle.answers.proofs.Values.{no-value}
 use Rattle.answers.specs.Answer.{Answer, refused, given}
 use Rattle.entries.proofs.Entered.{enters}
 use Rattle.rules.proofs.Held.{held-back, kept-accepts}
@@ -35,8 +35,8 @@ pub record Gave (n : ℕ) (a : Answer Fired) (rule : Rule) : Type 0 where
 gave : (n : ℕ) (a : Answer Fired) (rule : Rule) → singleAnswer n a ≡ given rule → Gave n a rule
 unfolding singleAnswer
 gave zero (given f) rule e = record { none = refl; fired = f; is = refl; named = cc }
-gave zero (refused k) rule e = let z : _≡_ {A = ℕ} 0 1 = cc in absurd (omega arith)
-gave (suc n) a rule e = let z : _≡_ {A = ℕ} 0 1 = cc in absurd (omega arith)
+gave zero (refused k) rule e = no-value e
+gave (suc n) a rule e = no-value e
 
 module _ (t : Table) where
   -- what must hold where the rules give one
@@ -45,19 +45,16 @@ module _ (t : Table) where
     pub taken : takes t s z ≡ true
     pub is : f ≡ record { rule = due t s; state = fire (t .size) (due t s) s z }
 
-  no-refusal : {k : ℕ} {f : Fired} {A : Type 0} → refused k ≡ given f → A
-  no-refusal e = let z : _≡_ {A = ℕ} 0 1 = cc in absurd (omega arith)
-
   single-due : (s : State) (z : Set) (f : Fired) → single t s z ≡ given f → Given s z f
   unfolding single
   single-due s z f e = go (conclusion t s) (lacksRoom t s) (takes t s z) refl refl refl e
     where
       go : (c : Standing) (l k : Bool) → conclusion t s ≡ c → lacksRoom t s ≡ l → takes t s z ≡ k → single t s z ≡ given f → Given s z f
-      go (safe j) l k ec el ek e = no-refusal (rw (ec, single) at e)
-      go reached l k ec el ek e = no-refusal (rw (ec, single) at e)
-      go noRoom l k ec el ek e = no-refusal (rw (ec, single) at e)
-      go unfinished true k ec el ek e = no-refusal (rw (ec, el, single) at e)
-      go unfinished false false ec el ek e = no-refusal (rw (ec, el, ek, single) at e)
+      go (safe j) l k ec el ek e = no-value (rw (ec, single) at e)
+      go reached l k ec el ek e = no-value (rw (ec, single) at e)
+      go noRoom l k ec el ek e = no-value (rw (ec, single) at e)
+      go unfinished true k ec el ek e = no-value (rw (ec, el, single) at e)
+      go unfinished false false ec el ek e = no-value (rw (ec, el, ek, single) at e)
       go unfinished false true ec el ek e =
           let q : given (record { rule = due t s; state = fire (t .size) (due t s) s z }) ≡ given f = rw (ec, el, ek, single) at e in
           record { still-open = ec; taken = ek; is = cc }
