@@ -40,7 +40,8 @@ uint16_t lampferret_count(const uint64_t set[4]);
 /* The smallest member, or LAMPFERRET_NO_MEMBER. */
 uint16_t lampferret_smallest(const uint64_t set[4]);
 
-/* The turn from angle a to angle b. Refused with 3. */
+/* The turn from angle a to angle b, -180 to 180; the half turn is 180 from an angle of 0 or more, -180 from a negative one.
+ * There and back cancel. Refused with 3. */
 uint8_t lampferret_turn(int16_t a, int16_t b, int16_t *turn);
 
 /* f(x) and g(x). Refused with 7, 2, 13. */

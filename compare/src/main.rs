@@ -18,7 +18,7 @@ use std::process::ExitCode;
 use std::time::{SystemTime, UNIX_EPOCH};
 
 const USAGE: &str = "usage: compare [COUNT [SEED | random]]\n       compare --case SEED NUMBER";
-const COUNT: u64 = 115_000;
+const COUNT: u64 = cases::PAIRS_OF_ANGLES + 115_000;
 const SEED: u64 = 271_828;
 
 /// What agreed, or the first difference.

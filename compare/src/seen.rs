@@ -1,14 +1,17 @@
 //! What has been compared, and how each call ended, so that a reader sees that nothing is vacuous.
 
-/// From this many comparisons on, every outcome below must have come.
-const ENOUGH: u64 = 100_000;
+use crate::cases::PAIRS_OF_ANGLES;
+
+/// From this many comparisons on, every outcome below must have come. The pairs of angles come in one case, and bring none
+/// but turns.
+const ENOUGH: u64 = PAIRS_OF_ANGLES + 100_000;
 
 /// Each call with the outcomes that can come, refusals by number: 11 never does.
 const CALLS: [(&str, &str); 17] = [
     ("full", "done, 2"),
     ("count", "done"),
     ("smallest", "member, none"),
-    ("turn", "done, 3"),
+    ("turn", "180, -180, other, 3"),
     ("f", "done, 7, 2, 13"),
     ("g", "done, 7, 2, 13"),
     ("fresh", "done, 7, 2"),
@@ -28,7 +31,8 @@ const CALLS: [(&str, &str); 17] = [
 ];
 
 /// What else must have been among them.
-const ALSO: [(&str, &str); 9] = [
+const ALSO: [(&str, &str); 10] = [
+    ("turns", "every pair of angles"),
     ("N of a run", "1, 63, 64, 65, 128, 255, 256"),
     (
         "its sets",

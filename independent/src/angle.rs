@@ -12,17 +12,20 @@ pub fn mode_in_range(mode: u8) -> bool {
     mode <= 15
 }
 
-/// "The turn from angle a to angle b is the one of b-a, b-a+360, b-a-360
-/// that lies in -180 to 179."  Refusal 3.
+/// "The turn from angle a to angle b is the one of b-a, b-a+360, b-a-360"
+/// (document 01) that lies in -180 to 180; of the half turn, "from an angle of
+/// 0 or more it is +180, from a negative one it is -180" (document 02, 2/12).
+/// Refusal 3.
 pub fn turn(a: i16, b: i16) -> Result<i16, u8> {
     if !angle_in_range(a) || !angle_in_range(b) {
         return Err(ANGLE_OR_MODE);
     }
-    // Both lie in -180 to 179, so b-a lies in -359 to 359.
-    let plain = b - a;
-    let turn = [plain, plain + 360, plain - 360]
-        .into_iter()
-        .find(|&turn| angle_in_range(turn))
-        .expect("one of the three lies in -180 to 179");
-    Ok(turn)
+    // How far b lies from a going up, 0 to 359.
+    let up = (b - a).rem_euclid(360);
+    Ok(match up {
+        0..=179 => up,
+        180 if a >= 0 => 180,
+        180 => -180,
+        _ => up - 360,
+    })
 }

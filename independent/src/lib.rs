@@ -1,10 +1,10 @@
 //! A plain program written from document 01 ("What to make and its exact
-//! rules"), the published slide "AdjointPDR" of document 001 and request 1/12
-//! of document 02 ("Who leads here?").  It exists to be compared, answer for
-//! answer and byte for byte, with another implementation.  It shares the
-//! decisions on points that the documents leave open (what a refused answer
-//! holds, say), or the two could not be compared; every other line is a second
-//! design.
+//! rules"), the published slide "AdjointPDR" of document 001 and the requests
+//! of document 02 that have landed: 1/12 ("Who leads here?") and 2/12 ("There
+//! and back should cancel").  It exists to be compared, answer for answer and
+//! byte for byte, with another implementation.  It shares the decisions on
+//! points that the documents leave open (what a refused answer holds, say), or
+//! the two could not be compared; every other line is a second design.
 //!
 //! * `set`: a set of states, `full`, `count`, `smallest`.
 //! * `table`: the table, when it is sound, f and g (`forward`, `backward`).

@@ -46,12 +46,18 @@ pub fn turn(case: &mut Case, a: i16, b: i16) -> Agreed<()> {
     let before: Vec<i16> = any(&mut case.random, 1);
     let mut turn = Lent::of(&before);
     let number = boundary::turn(a, b, &mut turn);
-    let (expected, after) = match independent::turn(a, b) {
-        Ok(turned) => (0, vec![turned]),
-        Err(refusal) => (refusal, before),
+    let (expected, outcome, after) = match independent::turn(a, b) {
+        Ok(turned) => (0, turn_name(turned), vec![turned]),
+        Err(refusal) => (refusal, refusal_name(refusal), before),
     };
     let parts = [same("answer", number, expected), turn.holds("turn", &after)];
-    compared(case, "turn", refusal_name(expected), parts, || {
-        format!("a {a}, b {b}")
-    })
+    compared(case, "turn", outcome, parts, || format!("a {a}, b {b}"))
+}
+
+fn turn_name(turned: i16) -> &'static str {
+    match turned {
+        180 => "180",
+        -180 => "-180",
+        _ => "other",
+    }
 }

@@ -29,6 +29,20 @@ pub fn fresh(case: &mut Case) -> Agreed<()> {
     Ok(())
 }
 
+/// The comparisons that `turn` makes.
+pub const PAIRS_OF_ANGLES: u64 = 360 * 360;
+
+/// The turn from each angle, -180 to 179, to each.
+pub fn turn(case: &mut Case) -> Agreed<()> {
+    for a in -180..180 {
+        for b in -180..180 {
+            sets::turn(case, a, b)?;
+        }
+    }
+    case.seen.also("turns", "every pair of angles");
+    Ok(())
+}
+
 pub fn end_of_turns(case: &mut Case) -> Agreed<()> {
     let ends = [
         -32768, -361, -181, -180, -179, -1, 0, 1, 178, 179, 180, 360, 32767,

@@ -12,12 +12,14 @@ mod rules;
 mod runs;
 mod sets;
 
+pub use every::PAIRS_OF_ANGLES;
+
 use crate::{Agreed, Case};
 
 type Kind = fn(&mut Case) -> Agreed<()>;
 
 /// The cases that every seed has.
-const FIXED: [Kind; 16] = [
+const FIXED: [Kind; 17] = [
     fixed::tables_of_the_document,
     fixed::longest_file,
     fixed::longest_listings,
@@ -25,6 +27,7 @@ const FIXED: [Kind; 16] = [
     fixed::ladders,
     every::full,
     every::fresh,
+    every::turn,
     every::end_of_turns,
     every::word_of_a_move_table,
     every::word_of_a_run_buffer,

@@ -4,13 +4,13 @@ use Prim.Native.Char.{code}
 use Prim.Native.String.{String, charAt, count as letters}
 use native.Mathlib.Nat.{pow-suc, mul-le-mul}
 use native.Mathlib.Omega.{arith}
-use mathlib.Core.Bool.{Bool, true, false, _&&_, cond}
+use mathlib.Core.Bool.{Bool, true, false, cond}
 use mathlib.Core.List.{List, [], _∷_, _++_, map, map-append, append-nil}
 use mathlib.Core.Logic.{inl, inr}
 use mathlib.Core.Path.{_≡_, refl, sym, _∙_}
-use lib.IntN.{ℤ, pos, negsuc}
+use lib.IntN.{ℤ, pos, negsuc, natAbs}
 use lib.ListN.{length, getD, length-append}
-use Rattle.answers.specs.Answer.{refused, given}
+use Rattle.answers.specs.Answer.{Answer, refused, given}
 use Rattle.rules.proofs.Budget.{run-standing, run-keeps, run-most}
 use Rattle.rules.proofs.Demands.{fresh-inv}
 use Rattle.rules.proofs.Invariant.{Invariant}
@@ -23,10 +23,11 @@ use Rattle.rules.specs.Table.{Table, moveCount}
 use Rattle.rules.specs.Walks.{LeadsToBad, arrived, onward}
 use Rattle.moves.specs.Models.{Control}
 use Rattle.sets.proofs.Count.{count-max}
-use Rattle.sets.proofs.Tests.{lt-or-ge, and-true}
+use Rattle.sets.proofs.Tests.{lt-or-ge}
 use Rattle.sets.specs.Sets.{Set, member, count}
-use Rattle.turns.proofs.Laws.{within, turn-is-angle}
-use Rattle.turns.specs.Turn.{isAngle, between, turnOf}
+use Rattle.turns.proofs.Degrees.{in-degrees}
+use Rattle.turns.proofs.Laws.{within}
+use Rattle.turns.specs.Turn.{isAngle, turnOf}
 use Rattle.listings.proofs.Text.{decimal-one, decimal-more}
 use Rattle.listings.specs.Listing.{refusedListing, modelLine, safeLine, membersBelow, membersLine, safeListing}
 use Rattle.listings.specs.Listing.{reachedLine, shown, stateAt, angleAt, turnAt, stateLine, reachedListing}
@@ -46,11 +47,15 @@ decimal-short (suc k) n h = elim (lt-or-ge n 10) [
       rw (decimal-more n l, length-append) (omega arith)
 ]
 
--- an angle has at most three digits and a sign
-signed-short : (z : ℤ) → isAngle z ≡ true → length (signedDecimal z) ≤ 4
+-- an angle or a turn has at most three digits and a sign
+signed-short : (z : ℤ) → natAbs z ≤ 180 → length (signedDecimal z) ≤ 4
 unfolding signedDecimal
-signed-short (pos n) e = let w = within (pos n) e in omega (arith, decimal-short 2 n (omega arith))
-signed-short (negsuc n) e = let w = within (negsuc n) e in omega (arith, decimal-short 2 (suc n) (omega arith))
+signed-short (pos n) h = omega (arith, decimal-short 2 n (omega arith))
+signed-short (negsuc n) h = omega (arith, decimal-short 2 (suc n) (omega arith))
+
+angle-size : (z : ℤ) → isAngle z ≡ true → natAbs z ≤ 180
+angle-size (pos n) e = omega (arith, within (pos n) e)
+angle-size (negsuc n) e = omega (arith, within (negsuc n) e)
 
 -- the bytes of fields, and one more for each: a space or the newline
 abbrev total : List (List ℕ) → ℕ
@@ -167,19 +172,19 @@ members-length : (x : Set) → length (membersLine x) ≤ 1025
 unfolding membersLine
 members-length x = omega (arith, line-most (map decimal (membersBelow 256 x)), members-total 256 x (omega arith))
 
--- a turn shown is an angle
-shown-angle : (a b : ℤ) → isAngle (shown (turnOf a b)) ≡ true
-unfolding turnOf shown isAngle
-shown-angle a b = go (isAngle a && isAngle b) refl
+-- a turn shown lies in -180 to 180
+shown-size : (a b : ℤ) → natAbs (shown (turnOf a b)) ≤ 180
+unfolding shown
+shown-size a b = go (turnOf a b) (in-degrees a b .range)
   where
-    go : (t : Bool) → (isAngle a && isAngle b) ≡ t → isAngle (shown (cond t (given (between a b)) (refused 3))) ≡ true
-    go true e = let h = and-true (isAngle a) (isAngle b) e in turn-is-angle a b (h .0) (h .1)
-    go false e = refl
+    go : (t : Answer ℤ) → ((z : ℤ) → t ≡ given z → natAbs z ≤ 180) → natAbs (shown t) ≤ 180
+    go (given z) h = h z refl
+    go (refused k) h = omega arith
 
-turn-angle : (walk : List ℕ) (angles : List ℤ) (i : ℕ) → isAngle (turnAt walk angles i) ≡ true
-unfolding turnAt isAngle
-turn-angle walk angles zero = refl
-turn-angle walk angles (suc i) = shown-angle (angleAt walk angles i) (angleAt walk angles (suc i))
+turn-size : (walk : List ℕ) (angles : List ℤ) (i : ℕ) → natAbs (turnAt walk angles i) ≤ 180
+unfolding turnAt
+turn-size walk angles zero = omega arith
+turn-size walk angles (suc i) = shown-size (angleAt walk angles i) (angleAt walk angles (suc i))
 
 -- the line of a state of a walk
 state-length :
@@ -193,9 +198,9 @@ state-length walk angles modes i h s a m =
       line-length (decimal (i + 1)) (decimal (stateAt walk i) ∷ labels),
       decimal-short 2 (i + 1) (omega arith),
       decimal-short 2 (stateAt walk i) (omega arith),
-      signed-short (angleAt walk angles i) a,
+      signed-short (angleAt walk angles i) (angle-size (angleAt walk angles i) a),
       decimal-short 1 (getD modes (stateAt walk i) 0) (omega arith),
-      signed-short (turnAt walk angles i) (turn-angle walk angles i),
+      signed-short (turnAt walk angles i) (turn-size walk angles i),
     )
 
 -- ---- listings

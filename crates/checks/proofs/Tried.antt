@@ -6,7 +6,7 @@ use mathlib.Core.Path.{_≡_, refl, sym, ap, _∙_}
 use Rattle.sets.specs.Search.{orElse, least, found, any, all}
 use Rattle.sets.specs.Lists.{tabulate}
 use Rattle.sets.specs.Sets.{bit, member, pack, wordOf, setOf, empty, full, within, sound, meet, with, quad}
-use Rattle.turns.specs.Turn.{isAngle, candidates, firstThat, between, turnOf}
+use Rattle.turns.specs.Turn.{isAngle, candidates, isShort, halfTurn, firstThat, between, turnOf}
 use Rattle.rules.specs.Table.{leads, withMove, forward, backward}
 use Rattle.tables.proofs.Filling.{rows-none, rows-more}
 use Rattle.tables.specs.Control.{rowsOfEntries, setOfEntries, controlOf}
@@ -42,7 +42,7 @@ unfolding tableIn andThen
 file-b = rw reads-b (ap taken table-b)
 
 pub rows : Rows
-unfolding orElse least found any all bit member pack wordOf setOf empty full within sound meet quad isAngle candidates firstThat between
-    turnOf leads forward backward put cut concludes freshOf closes conclusionOf due allowed house fire asks offered pick stop after
+unfolding orElse least found any all bit member pack wordOf setOf empty full within sound meet quad isAngle candidates isShort halfTurn
+    firstThat between turnOf leads forward backward put cut concludes freshOf closes conclusionOf due allowed house fire asks offered pick stop after
     orZero willDo choose next lacksRoomFor run firstState nextState walkFrom shownWalk reasonOf seen hintsFrom
 rows = (file-b, refl, refl, refl, refl, refl, refl, refl, refl, refl, refl, refl, refl)

@@ -1,4 +1,5 @@
--- "Tried on small tables": the rows of document 01 that are marked P, and that file B gives table B, as one statement.
+-- "Tried on small tables": the rows of document 01 that are marked P, "0 to -180" as document 02 (2/12) has it, and that file B gives
+-- table B, as one statement.
 use Prim.Native.Nat.{ℕ}
 use mathlib.Core.List.{List, [], _∷_, _++_}
 use mathlib.Core.Path.{_≡_}
@@ -81,4 +82,4 @@ Rows =
     × (seen (still 1 0) 24 [] ≡ saw reached [] (0 ∷ []) 1 0 0)
     × (turnOf (pos 179) (negsuc 178) ≡ given (pos 2))
     × (turnOf (negsuc 178) (pos 179) ≡ given (negsuc 1))
-    × (turnOf (pos 0) (negsuc 179) ≡ given (negsuc 179))
+    × (turnOf (pos 0) (negsuc 179) ≡ given (pos 180))

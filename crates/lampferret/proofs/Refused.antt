@@ -56,7 +56,7 @@ turn-number : (a b : ℤ) (k : ℕ) → turnOf a b ≡ refused k → oneOf (3 �
 unfolding turnOf oneOf
 turn-number a b k e = go (isAngle a && isAngle b) e
   where
-    go : (c : Bool) → cond c (given (between a b)) (refused 3) ≡ refused k → oneOf (3 ∷ []) k ≡ true
+    go : (c : Bool) → cond c (given (between 360 a b)) (refused 3) ≡ refused k → oneOf (3 ∷ []) k ≡ true
     go true q = no-value (sym q)
     go false q = rw (← (one q))
 

@@ -113,7 +113,7 @@ fn give_turn(a: Turned, turn: &mut i16) -> u8
     }
 }
 
-// The turn from angle a to angle b.
+// The turn from angle a to angle b, -180 to 180.
 #[no_mangle]
 pub extern "C" fn lampferret_turn(a: i16, b: i16, turn: &mut i16) -> u8
     ensures { λ r. ⌜ Gives (turnOf a b) (now (turn .entry)) (now (turn .exit)) r ⌝ }

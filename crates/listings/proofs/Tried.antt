@@ -4,7 +4,7 @@ use mathlib.Core.List.{[], _∷_}
 use lib.IntN.{pos, negsuc}
 use Rattle.sets.specs.Sets.{member, bit, count, quad}
 use Rattle.sets.specs.Search.{sum}
-use Rattle.turns.specs.Turn.{isAngle, candidates, firstThat, between, turnOf}
+use Rattle.turns.specs.Turn.{isAngle, candidates, isShort, firstThat, between, turnOf}
 use Rattle.rules.specs.Table.{table, moveCount}
 use Rattle.moves.specs.Models.{control}
 use Rattle.listings.specs.Text.{appended, text, digits, decimal, signedDecimal, spaced, parted, line}
@@ -24,7 +24,7 @@ pub file-b :
     (0 ∷ 1 ∷ 2 ∷ [])
     ≡ text "model 3 1 2 2\nreached 3 rules 11\n1 0 170 0 0\n2 1 179 0 9\n3 2 -179 1 2\n"
 unfolding reachedListing modelLine reachedLine stateLine turnAt angleAt stateAt shown
-    turnOf between candidates firstThat isAngle moveCount count sum member bit quad
+    turnOf between candidates isShort firstThat isAngle moveCount count sum member bit quad
     appended text digits decimal signedDecimal spaced parted line
 file-b = refl
 

@@ -271,7 +271,7 @@ module _ (c : Control) (h : Held c) (w : Writable c) where
   angle-fits : (s : ℕ) → s < N → (minus (angle s) ≤ 32768) × (plus (angle s) < 32768)
   angle-fits s l = let r = within (angle s) (label s l .0) in bounds (angle s) (r .low) (r .high)
     where
-      bounds : (z : ℤ) → minus z ≤ plus z + 180 → plus z ≤ minus z + 179 → (minus z ≤ 32768) × (plus z < 32768)
+      bounds : (z : ℤ) → minus z ≤ plus z + 180 → plus z < minus z + 180 → (minus z ≤ 32768) × (plus z < 32768)
       bounds (pos k) a b = (omega arith, omega arith)
       bounds (negsuc k) a b = (omega arith, omega arith)
 

@@ -1,14 +1,14 @@
 -- An integer z as two naturals, `plus z` less `minus z`, so that `omega` proves facts of integers.
-use Prim.Native.Nat.{ℕ, zero, suc, _+_, _-_, _≤_, _<_}
+use Prim.Native.Nat.{ℕ, zero, suc, _+_, _-_, _/_, _≤_, _<_}
 use native.Mathlib.Omega.{arith}
-use mathlib.Core.Path.{_≡_, refl}
+use mathlib.Core.Path.{_≡_, refl, ap}
 use mathlib.Core.Bool.{Bool, true, false, cond, true≢false, false≢true}
 use lib.Dec.{ltb}
-use lib.IntN.{ℤ, pos, negsuc, subℕ, _+ℤ_, _-ℤ_}
-use lib.Signed.{leZ}
+use lib.IntN.{ℤ, pos, negsuc, negℤ, natAbs, subℕ, _+ℤ_, _-ℤ_}
+use lib.Signed.{leZ, ltZ}
 use mir.Syntax.{w16}
 use mir.Val.{SFits}
-use borrow.Author.Tests.{ltb-true, ltb-false, leb-true, leb-false, le-leb}
+use borrow.Author.Tests.{ltb-true, ltb-false, leb-true, leb-false, lt-ltb, le-leb}
 
 -- how far z lies above 0
 abbrev pub plus : ℤ → ℕ
@@ -44,6 +44,43 @@ sub-is a (pos zero) = add-is a (pos zero)
 sub-is a (pos (suc n)) = add-is a (negsuc n)
 sub-is a (negsuc n) = add-is a (pos (suc n))
 
+-- the opposite
+pub plus-neg : (z : ℤ) → plus (negℤ z) ≡ minus z
+plus-neg (pos zero) = refl
+plus-neg (pos (suc n)) = refl
+plus-neg (negsuc n) = refl
+
+pub minus-neg : (z : ℤ) → minus (negℤ z) ≡ plus z
+minus-neg (pos zero) = refl
+minus-neg (pos (suc n)) = refl
+minus-neg (negsuc n) = refl
+
+-- an integer is known by its difference
+pub same-int : (z w : ℤ) → plus z + minus w ≡ plus w + minus z → z ≡ w
+same-int (pos m) (pos n) e = let q : m ≡ n = omega arith in ap pos q
+same-int (pos m) (negsuc n) e = absurd (omega arith)
+same-int (negsuc m) (pos n) e = absurd (omega arith)
+same-int (negsuc m) (negsuc n) e = let q : m ≡ n = omega arith in ap negsuc q
+
+-- z lies between -H and H, in naturals
+pub record Inside (H : ℕ) (z : ℤ) : Type 0 where
+  pub low : minus z < plus z + H
+  pub high : plus z < minus z + H
+
+-- z is an angle where the full turn is T, in naturals
+pub record Bounds (T : ℕ) (z : ℤ) : Type 0 where
+  pub low : minus z ≤ plus z + T / 2
+  pub high : plus z < minus z + T / 2
+
+-- z lies between -H and H where its size is below H
+pub abs-inside : (H : ℕ) (z : ℤ) → natAbs z < H → Inside H z
+abs-inside H (pos n) h = omega arith
+abs-inside H (negsuc n) h = omega arith
+
+pub inside-abs : (H : ℕ) (z : ℤ) → Inside H z → natAbs z < H
+inside-abs H (pos n) h = omega arith
+inside-abs H (negsuc n) h = omega arith
+
 -- a test that passed
 pub le-yes : (a b : ℤ) → leZ a b ≡ true → plus a + minus b ≤ plus b + minus a
 le-yes (pos a) (pos b) e = omega (arith, leb-true a b e)
@@ -58,6 +95,19 @@ le-no (pos a) (negsuc b) e = omega arith
 le-no (negsuc a) (pos b) e = absurd (true≢false e)
 le-no (negsuc a) (negsuc b) e = omega (arith, leb-false b a e)
 
+-- the same of `<`
+pub lt-yes : (a b : ℤ) → ltZ a b ≡ true → plus a + minus b < plus b + minus a
+lt-yes (pos a) (pos b) e = omega (arith, ltb-true a b e)
+lt-yes (pos a) (negsuc b) e = absurd (false≢true e)
+lt-yes (negsuc a) (pos b) e = omega arith
+lt-yes (negsuc a) (negsuc b) e = omega (arith, ltb-true b a e)
+
+pub lt-no : (a b : ℤ) → ltZ a b ≡ false → plus b + minus a ≤ plus a + minus b
+lt-no (pos a) (pos b) e = omega (arith, ltb-false a b e)
+lt-no (pos a) (negsuc b) e = omega arith
+lt-no (negsuc a) (pos b) e = absurd (true≢false e)
+lt-no (negsuc a) (negsuc b) e = omega (arith, ltb-false b a e)
+
 -- a test that passes
 pub yes-le : (a b : ℤ) → plus a + minus b ≤ plus b + minus a → leZ a b ≡ true
 yes-le (pos a) (pos b) h = le-leb a b (omega arith)
@@ -65,7 +115,13 @@ yes-le (pos a) (negsuc b) h = absurd (omega arith)
 yes-le (negsuc a) (pos b) h = refl
 yes-le (negsuc a) (negsuc b) h = le-leb b a (omega arith)
 
+pub yes-lt : (a b : ℤ) → plus a + minus b < plus b + minus a → ltZ a b ≡ true
+yes-lt (pos a) (pos b) h = lt-ltb a b (omega arith)
+yes-lt (pos a) (negsuc b) h = absurd (omega arith)
+yes-lt (negsuc a) (pos b) h = refl
+yes-lt (negsuc a) (negsuc b) h = lt-ltb b a (omega arith)
+
 -- a number that an i16 holds
-pub fits : (z : ℤ) → plus z < minus z + 32768 → minus z < plus z + 32768 → SFits w16 z
-fits (pos n) h k = record { sfits = omega arith }
-fits (negsuc n) h k = record { sfits = omega arith }
+pub fits : (z : ℤ) → Inside 32768 z → SFits w16 z
+fits (pos n) h = record { sfits = omega arith }
+fits (negsuc n) h = record { sfits = omega arith }

@@ -1,2 +1,5 @@
 pub mod Ints
 pub mod Laws
+pub mod Picks
+pub mod AnyTurn
+pub mod Degrees

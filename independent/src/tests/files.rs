@@ -396,7 +396,8 @@ fn check_row(model: &Model, rows: &[Vec<i64>], at: usize) {
     } else {
         let before = &rows[at - 1];
         assert!(model.has_move(before[1] as usize, state));
-        assert!((-180..=179).contains(&row[4]));
+        let half = if before[2] >= 0 { 180 } else { -180 };
+        assert!((-179..=179).contains(&row[4]) || row[4] == half);
         assert_eq!((row[2] - before[2] - row[4]) % 360, 0);
     }
 }

@@ -9,6 +9,7 @@ mod second_refusals;
 mod sets;
 mod slips;
 mod small_tables;
+mod turns;
 mod verdict;
 
 use crate::make::Model;

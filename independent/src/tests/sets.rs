@@ -2,7 +2,7 @@
 
 use crate::make::{any_model, any_words, some_of};
 use crate::random::Random;
-use crate::{backward, count, forward, full, smallest, turn, Set};
+use crate::{backward, count, forward, full, smallest, Set};
 
 #[test]
 fn full_sets() {
@@ -90,24 +90,6 @@ fn f_and_g_by_pairs_and_as_adjoints() {
             assert_eq!(gy, from);
             // "f(X) is within Y exactly when X is within g(Y)."
             assert_eq!(fx.within(y), x.within(gy));
-        }
-    }
-}
-
-#[test]
-fn every_turn() {
-    for a in -180..=179i16 {
-        for b in -180..=179i16 {
-            let turned = turn(a, b).unwrap();
-            assert!((-180..=179).contains(&turned));
-            assert_eq!((i32::from(turned) - i32::from(b) + i32::from(a)) % 360, 0);
-        }
-    }
-    for bad in [-181, 180, 181, 360, -360, i16::MIN, i16::MAX] {
-        for good in [-180, 0, 179] {
-            assert_eq!(turn(bad, good), Err(3));
-            assert_eq!(turn(good, bad), Err(3));
-            assert_eq!(turn(bad, bad), Err(3));
         }
     }
 }

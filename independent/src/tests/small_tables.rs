@@ -97,11 +97,12 @@ fn n_3_i_0_p_empty() {
     check_walk(&ran, &[0]);
 }
 
+/// "The case "0 to -180" in document 01 becomes 180." (document 02, 2/12)
 #[test]
 fn turns() {
     assert_eq!(turn(179, -179), Ok(2));
     assert_eq!(turn(-179, 179), Ok(-2));
-    assert_eq!(turn(0, -180), Ok(-180));
+    assert_eq!(turn(0, -180), Ok(180));
 }
 
 #[test]
