@@ -1,5 +1,6 @@
 // The refusal numbers of documents 01 and 02, by name. Code refuses by these; promises use the same names
 // in specs/Refusals.antt, so a number that differs between the two breaks every proof that meets it.
+#![tactic(auto)]
 
 // The call was taken: no refusal.
 pub const NO_REFUSAL: u8 = 0;

@@ -1,5 +1,7 @@
 // The program `check` of document 01: reads a table's file from standard input and prints its listing,
 // which `checks::check` makes and promises.
+#![tactic(auto)]
+
 use libc::{STDIN_FILENO, STDOUT_FILENO};
 use listings::Listed;
 

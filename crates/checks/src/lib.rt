@@ -1,5 +1,7 @@
 // What `check` lists of a file: the file is read, the search run without hints, and the verdict put
 // into a lent output.
+#![tactic(auto)]
+
 ghost use Rattle.std.specs.Prelude.{◌≡◌};
 ghost use Rattle.answers.specs.Answer.{given};
 ghost use Rattle.rules.specs.Demands.{bound};

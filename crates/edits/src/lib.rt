@@ -1,5 +1,7 @@
 // Who leads here? A second table of 1,024 words stands beside the move table, row t holding the states with a move to t:
 // it is made, asked, kept in step where a move is added or removed, and g is worked out from it.
+#![tactic(auto)]
+
 ghost use Rattle.std.specs.Prelude.{◌≡◌, ◌<◌, ◌≤◌, true, false, not, ◌≢◌, length};
 ghost use Rattle.std.specs.Int.Count.{count_trailing_zeros};
 ghost use Rattle.answers.specs.Refusals.{first_failing};

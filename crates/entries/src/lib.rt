@@ -2,6 +2,8 @@
 //
 // One call, for any words at all: `refusal` says what is wrong with them, or 0. What a run may rely on
 // after a 0 is a law, `enters` of proofs/Entered.antt.
+#![tactic(auto)]
+
 ghost use Rattle.std.specs.Prelude.{◌≡◌, length};
 ghost use Rattle.moves.specs.Models.{on};
 ghost use Rattle.rules.specs.Buffer.{entry_check};

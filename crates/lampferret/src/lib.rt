@@ -3,6 +3,8 @@
 //
 // Each call passes on what a proved call answers: the refusal's number, 0 for none, and the rest of the
 // answer in lent places. Where it refuses, each lent place is left as it was, but for the offset of a reading.
+#![tactic(auto)]
+
 ghost use Rattle.std.specs.Prelude.{true, false, ◌≡◌};
 ghost use Rattle.answers.specs.Answer.{given};
 ghost use Rattle.sets.specs.Sets.{count, smallest, full, size_refusal};

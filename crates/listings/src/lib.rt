@@ -5,6 +5,8 @@
 // is refused with 12 and left as it was. Bytes past the listing stay.
 //
 // The table listed is a model and a move table, whatever words that has: only its moves are counted.
+#![tactic(auto)]
+
 ghost use Rattle.std.specs.Prelude.{◌≡◌};
 ghost use Rattle.answers.specs.Answer.{given};
 ghost use Rattle.moves.specs.Models.{on, control};
@@ -19,7 +21,7 @@ mod put;
 mod walk;
 
 // The listing's length, or a refusal with its number.
-#[derive(Drop)]
+#[derive(Clone, Copy)]
 pub enum Listed {
     Length(usize),
     Refused(u8),

@@ -2,6 +2,8 @@
 //
 // `f` and `g` refuse what is not sound. `forward` and `backward` make no test, for callers that
 // have made it once; they answer for any words all the same.
+#![tactic(auto)]
+
 ghost use Rattle.std.specs.Prelude.{◌≡◌, ◌-◌, ◌<◌, min};
 ghost use Rattle.sets.specs.Sets.{word_of};
 ghost use Rattle.rules.specs.Table.{sound_table, sound_rows, sound_row, move_count, with_move, forward as f, backward as g};
@@ -13,7 +15,7 @@ ghost use Rattle.moves.specs.Said.{move_refusal};
 use sets::{SetAnswer, StateSet};
 
 // A controller but for its moves: N, the starts I and the safe states P.
-#[derive(Drop)]
+#[derive(Clone, Copy)]
 pub struct Model {
     pub size: u16,
     pub starts: StateSet,

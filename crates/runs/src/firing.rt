@@ -41,7 +41,7 @@ pub fn conclusion(starts: StateSet, buf: &[u64], from: usize, to: usize) -> Stan
 }
 
 // The places from `from` up to `to`.
-#[derive(Drop)]
+#[derive(Clone, Copy)]
 pub struct Span {
     pub from: usize,
     pub to: usize,
@@ -82,7 +82,7 @@ pub fn closing(size: u16, buf: &[u64], rule: Rule, z: StateSet) -> Span
 }
 
 // A rule, and its house choice.
-#[derive(Drop)]
+#[derive(Clone, Copy)]
 pub struct Ruling {
     pub rule: Rule,
     pub set: StateSet,

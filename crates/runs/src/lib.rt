@@ -3,6 +3,8 @@
 // Each call tests all that it is lent before it writes anything, and a refused call leaves every
 // buffer as it was. Parameters come in one order: the move table, the model, the run buffer, hints,
 // budget, the set, the walk.
+#![tactic(auto)]
+
 ghost use Rattle.std.specs.Prelude.{◌≡◌, length};
 ghost use Rattle.moves.specs.Models.{on};
 ghost use Rattle.rules.specs.Single.{takes};
@@ -19,7 +21,7 @@ mod search;
 mod walk;
 
 // The rules, by their published names.
-#[derive(Drop)]
+#[derive(Clone, Copy)]
 pub enum Rule {
     Unfold,
     Candidate,
@@ -28,7 +30,7 @@ pub enum Rule {
 }
 
 // How a run stands.
-#[derive(Drop)]
+#[derive(Clone, Copy)]
 enum Standing {
     Safe(usize),
     Reached,
@@ -37,14 +39,14 @@ enum Standing {
 }
 
 // What a single rule answers: the rule fired, or a refusal.
-#[derive(Drop)]
+#[derive(Clone, Copy)]
 pub enum Asked {
     Fired(Rule),
     Refused(u8),
 }
 
 // How a run ended: safe with j, reached with the number of states, unfinished, or refused.
-#[derive(Drop)]
+#[derive(Clone, Copy)]
 pub enum Outcome {
     Safe(usize),
     Reached(usize),
@@ -53,7 +55,7 @@ pub enum Outcome {
 }
 
 // What a run answers: how it ended, the rules fired, the hints taken and used.
-#[derive(Drop)]
+#[derive(Clone, Copy)]
 pub struct RunAnswer {
     pub outcome: Outcome,
     pub rules: u64,

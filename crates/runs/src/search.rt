@@ -13,7 +13,7 @@ use moves::Model;
 use sets::StateSet;
 
 // A set, and how many hints were taken and used for it.
-#[derive(Drop)]
+#[derive(Clone, Copy)]
 pub struct Choice {
     pub set: StateSet,
     pub taken: u64,
@@ -21,7 +21,7 @@ pub struct Choice {
 }
 
 // The hints that a rule took and used, and where it can have closed the chain.
-#[derive(Drop)]
+#[derive(Clone, Copy)]
 pub struct Took {
     pub taken: u64,
     pub used: u64,
@@ -29,7 +29,7 @@ pub struct Took {
 }
 
 // How a run stands after so many rules and hints.
-#[derive(Drop)]
+#[derive(Clone, Copy)]
 pub struct Ran {
     pub standing: Standing,
     pub rules: u64,

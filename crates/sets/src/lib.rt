@@ -2,6 +2,8 @@
 //
 // Every call answers for any four words and any numbers. Promises are in the vocabulary of
 // specs/Sets.antt; `256` there is the number of states that four words can hold.
+#![tactic(auto)]
+
 ghost use Rattle.std.specs.Prelude.{◌≡◌};
 ghost use Rattle.std.proofs.lemmas.List.Edits.{sets};
 ghost use Rattle.sets.specs.Sets.{member, within, sound, meet, join, minus, with, without, count, smallest, in_range, quad};
@@ -9,20 +11,20 @@ ghost use Rattle.sets.specs.Said.{said, IsFull};
 
 mod word;
 
-#[derive(Drop)]
+#[derive(Clone, Copy)]
 pub struct StateSet {
     pub words: [u64; 4],
 }
 
 // What a call that makes a set answers: a refusal number, 0 for none, and the set, empty where refused.
-#[derive(Drop)]
+#[derive(Clone, Copy)]
 pub struct SetAnswer {
     pub refusal: u8,
     pub set: StateSet,
 }
 
 // What `smallest` answers.
-#[derive(Drop)]
+#[derive(Clone, Copy)]
 pub enum Smallest {
     Member(u16),
     Nothing,

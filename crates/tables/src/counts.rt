@@ -4,7 +4,7 @@ ghost use Rattle.tables.specs.Inner.{said_counted, counts_read, refused_of};
 
 use crate::{Step, section_of};
 
-#[derive(Drop)]
+#[derive(Clone, Copy)]
 pub enum Counted {
     Counts {
         size: usize,

@@ -3,6 +3,8 @@
 // a refused reading has changed nothing; so has a refused writing.
 //
 // The format is in specs/Format.antt; specs/Control.antt says which table a file's contents say.
+#![tactic(auto)]
+
 ghost use Rattle.std.specs.Prelude.{◌≡◌};
 ghost use Rattle.moves.specs.Models.{on, control};
 ghost use Rattle.tables.specs.Format.{section_number};
@@ -21,7 +23,7 @@ mod refusals;
 
 // What taking an entry or a section gives: a number (the entry's, or how many entries) and the place
 // past it; or a refusal's number and the byte offset.
-#[derive(Drop)]
+#[derive(Clone, Copy)]
 pub enum Step {
     Number(usize, usize),
     Refused(u8, usize),
@@ -29,7 +31,7 @@ pub enum Step {
 
 // What `read` answers: a refusal number and its byte offset, both 0 where there is none; the table but
 // for its moves, and the number of moves: 0 and empty where refused.
-#[derive(Drop)]
+#[derive(Clone, Copy)]
 pub struct Reading {
     pub refusal: u8,
     pub offset: usize,
@@ -38,14 +40,14 @@ pub struct Reading {
 }
 
 // What `write` answers: the file's length, or a refusal's number.
-#[derive(Drop)]
+#[derive(Clone, Copy)]
 pub enum Written {
     Length(usize),
     Refused(u8),
 }
 
 // A lent file, and a place in it.
-#[derive(Drop)]
+#[derive(Clone, Copy)]
 pub struct Reader<'a> {
     pub file: &'a [u8],
     pub at: usize,

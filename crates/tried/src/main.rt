@@ -1,5 +1,7 @@
 // Tries the calls on good and bad input. The cases are the lines of the file `stdin` beside this folder, which says what
 // they mean; what document 01 says must come of them stands in the file `stdout`.
+#![tactic(auto)]
+
 mod files;
 mod ground;
 mod lent;

@@ -1,12 +1,14 @@
 // The turn from one angle to another, in whole degrees from -180 to 180, so that there and back cancel.
 // A caller gets the turn, or a refusal where one of the two is no angle. Angles are i16, which holds any
 // difference of two, a full turn more and a full turn less.
+#![tactic(auto)]
+
 ghost use Rattle.std.specs.Prelude.{◌≡◌};
 ghost use Rattle.turns.specs.Turn.{is_angle, is_short, half_turn, turn_of};
 ghost use Rattle.turns.specs.Said.{said};
 
 // The turn, or a refusal with its number.
-#[derive(Drop)]
+#[derive(Clone, Copy)]
 pub enum Turned {
     By(i16),
     Refused(u8),

@@ -1,0 +1,14 @@
+-- `minus` meets its contract: word by word, `& !` goes bit by bit, so the words are those of the set.
+use borrow.Author.Rules.{rules}
+use Rattle.sets.proofs.Words.{proper_words, minus-words}
+use Rattle.sets.proofs.StateSet.minus.Goals as goal
+use Rattle.sets.proofs.StateSet.minus.Goals.{After-result-8-1, Start}
+
+abbrev start : After-result-8-1 → Start
+start c = c.before.before.before.before.before.before.before.before
+
+pub returns : goal.returns
+returns c =
+    minus-words (start c).args.self.words (start c).args.o.words
+    (proper_words _ (search rules) (λ j. search rules))
+    (proper_words _ (search rules) (λ j. search rules))

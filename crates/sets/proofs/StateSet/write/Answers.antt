@@ -1,0 +1,37 @@
+-- `write` meets its contract: four stores where they fit, else word by word as far as the list goes.
+use borrow.Author.Rules.{rules}
+use Prim.Native.Nat.{◌-◌}
+use native.Mathlib.Omega.{arith}
+use lib.ListN.{length-set}
+use Rattle.sets.proofs.Words.{sets_four, write_begins, write_off, write_out, write_goes, write_ends}
+use Rattle.sets.proofs.StateSet.write.Goals as goal
+
+pub bounds-b-at-then-at-b : goal.bounds-b-at-then-at-b
+bounds-b-at-then-at-b c = simp length-set (omega arith)
+
+pub bounds-b-at-then-at-b-2 : goal.bounds-b-at-then-at-b-2
+bounds-b-at-then-at-b-2 c = simp length-set (omega arith)
+
+pub bounds-b-at-then-at-b-3 : goal.bounds-b-at-then-at-b-3
+bounds-b-at-then-at-b-3 c = simp length-set (omega arith)
+
+pub shape_of-b-then-at-b : goal.shape_of-b-then-at-b
+shape_of-b-then-at-b c = simp length-set
+
+pub returns-then-at-b : goal.returns-then-at-b
+returns-then-at-b c = search (sets_four, rules)
+
+pub loop-k-init : goal.loop-k-init
+loop-k-init c = search (write_begins, rules)
+
+pub returns-then-b-at : goal.returns-then-b-at
+returns-then-b-at c = search (write_off, rules)
+
+pub returns-then-b-at-2 : goal.returns-then-b-at-2
+returns-then-b-at-2 c = search (write_out, rules)
+
+pub loop-k-preserved : goal.loop-k-preserved
+loop-k-preserved c = search (write_goes, rules)
+
+pub returns : goal.returns
+returns c = search (write_ends, rules)
