@@ -6,7 +6,7 @@ use Rattle.rules.proofs.Chains.{chain-no, chain-on, chain-end}
 use Rattle.rules.proofs.Ready.{Spans, Shaped}
 use Rattle.sets.specs.Sets.{Words}
 use Rattle.entries.proofs.passes.Goals as goal
-use Rattle.entries.proofs.passes.Goals.{Else-not-ranges, Else-not-sound_y, Start}
+use Rattle.entries.proofs.passes.Goals.{Else-not-ranges, Else-not-sound_y}
 
 pub returns-then-not-ranges : goal.returns-then-not-ranges
 returns-then-not-ranges c = search (entry-by, chain-no, ranges-are, rules)
