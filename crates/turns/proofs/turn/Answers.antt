@@ -1,7 +1,6 @@
 -- `turn` meets its contract: it tests the candidates in the definition's order, and an i16 holds each of them.
 use native.Mathlib.Omega.{arith}
 use mathlib.Core.Bool.{Bool, true, false, and-false}
-use mathlib.Core.Logic.{⊎_elim}
 use mathlib.Core.Path.{◌≡◌, sym, ◌∙◌, ap}
 use borrow.Author.Tests.{not-true, not-false}
 use lib.IntN.{ℤ, pos, ◌+ℤ◌, ◌-ℤ◌}
@@ -15,6 +14,7 @@ use Rattle.turns.proofs.Ints.{add_is, sub_is, Inside, fits}
 use Rattle.turns.proofs.Laws.{within}
 use Rattle.turns.proofs.Picks.{picks_first, picks_second, picks-third, picks-none}
 use Rattle.turns.proofs.turn.Goals as goal
+use Rattle.turns.proofs.turn.Goals.{then-not-is_angle-via-then-not-is_angle, then-not-is_angle-via-else-not-is_angle+then-not-is_angle-2}
 use Rattle.turns.proofs.turn.Goals.{Else-is_short, Else-is_short-2, Else-is_short-3, Else-not-is_angle-2, Start}
 
 -- what the machine reads from the bits of z
@@ -29,12 +29,12 @@ told test q e h = ap test (sym q) ∙ sym e ∙ h
 pub returns-then-not-is_angle : goal.returns-then-not-is_angle
 unfolding turn_of
 returns-then-not-is_angle c =
-    let start = c.before.before in
-    let a = to_z-of_z w16 start.args.a start.ranges.a in
-    let b = to_z-of_z w16 start.args.b start.ranges.b in
-    ⊎_elim (λ w. rw (told is_angle a c.is_angle.ensures (not-true _ w.taken)))
-    (λ w. rw (told is_angle b w.1.ensures (not-true _ w.2.taken), and-false))
-    c.then-not-is_angle.branch
+    let a = to_z-of_z w16 c.args.a c.ranges.a in
+    let b = to_z-of_z w16 c.args.b c.ranges.b in
+    elim c.then-not-is_angle.branch [
+      then-not-is_angle-via-then-not-is_angle w ↦ rw (told is_angle a c.is_angle.ensures w.if-not-is_angle.true)
+      | then-not-is_angle-via-else-not-is_angle+then-not-is_angle-2 w ↦
+        rw (told is_angle b w.is_angle-else-not-is_angle.ensures w.if-not-is_angle-2.true, and-false) ]
 
 -- from where both are angles
 module _ (c : Else-not-is_angle-2) where
@@ -48,16 +48,16 @@ module _ (c : Else-not-is_angle-2) where
   b = start.args.b
 
   read_a : read a ≡ a
-  read_a = to_z-of_z w16 a start.fits.a
+  read_a = to_z-of_z w16 a start.ranges.a
 
   read-b : read b ≡ b
-  read-b = to_z-of_z w16 b start.fits.b
+  read-b = to_z-of_z w16 b start.ranges.b
 
   angle-a : is_angle a ≡ true
-  angle-a = told is_angle read_a c.is_angle.ensures (not-false _ c.then-not-is_angle.false)
+  angle-a = told is_angle read_a c.is_angle.ensures c.if-not-is_angle.false
 
   angle-b : is_angle b ≡ true
-  angle-b = told is_angle read-b c.is_angle-else-not-is_angle.ensures (not-false _ c.if-not-is_angle-2.false-raw)
+  angle-b = told is_angle read-b c.is_angle-else-not-is_angle.ensures c.if-not-is_angle-2.false
 
   -- the difference of two angles is less than a full turn
   near : Inside 360 (b -ℤ a)
@@ -144,7 +144,7 @@ pub returns : goal.returns
 returns c =
     let passed = c.before in
     let p = both (past-d (past_more passed)) in
-    let half = to_z-of_z w16 _ (record { sfits = c.half_turn.type-inv }) ∙ c.half_turn.ensures ∙ ap (half_turn 360) (read_a p) in
+    let half = to_z-of_z w16 _ (record { sfits = c.half_turn.type_inv }) ∙ c.half_turn.ensures ∙ ap (half_turn 360) (read_a p) in
     answer p half (picks-none 360 (a p) (b p) (not-d (past-d (past_more passed))) (not_more (past_more passed)) (not-less passed))
 
 pub overflow_sub-d : goal.overflow_sub-d
