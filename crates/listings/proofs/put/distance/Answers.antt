@@ -1,5 +1,4 @@
 -- `distance` meets its contract: below 0, what the machine reads from the bits of -1 - z is one less than the distance.
-use borrow.Author.Rules.{rules}
 use Prim.Native.Nat.{ℕ, suc, ◌-◌, ◌<◌}
 use native.Mathlib.Omega.{arith}
 use mathlib.Core.Bool.{true, false, false≢true}
@@ -11,8 +10,8 @@ use mir.Syntax.{w16, w64}
 use mir.Val.{Fits, SFits, to_z, of_z}
 use mir.ValLaws.{to_z-of_z}
 use borrow.Author.Tests.{le-ltb, ltb-true}
-use Rattle.listings.proofs.put.distance.Statement.{statement}
-use Rattle.listings.proofs.put.distance.Tie as tie
+use Rattle.listings.proofs.put.distance.Goals as goal
+use Rattle.listings.proofs.put.distance.Goals.{Then-z-lt0}
 
 -- what the machine reads from the bits of z
 abbrev read : ℤ → ℤ
@@ -39,16 +38,20 @@ above : (z : ℤ) → SFits w16 z → lt_z (read z) (pos 0) ≡ false → T (non
 above (pos n) f e = rw (to_z-of_z w16 (pos n) f) (tt, record { fits = omega (arith, f.sfits) })
 above (negsuc n) f e = absurd (false≢true (sym (rw (to_z-of_z w16 (negsuc n) f) at e)))
 
-below_at : (c : tie.Then1) → Below c.before.args.z
-below_at c = below c.before.args.z c.before.ranges.z c.if1.true
+below_at : (c : Then-z-lt0) → Below c.args.z
+below_at c = below c.args.z c.ranges.z c.if-z-lt0.true
 
-pub distance-spec : {M : Type 1} → statement M
-distance-spec =
-    tie.close
-    (tie.spec
-    (λ c. (below_at c).ranges)
-    (λ c. let b = below_at c in rw b.back (tt, record { fits = omega arith }))
-    (λ c. let b = below_at c in rw b.back (omega arith))
-    (λ c. above c.before.args.z c.before.ranges.z c.if1.false)
-    (λ c. let b = below_at c in rw b.back (omega arith))
-    (λ c. search rules))
+pub overflow_sub-result : goal.overflow_sub-result
+overflow_sub-result c = (below_at c).fits
+
+pub overflow_cast-result : goal.overflow_cast-result
+overflow_cast-result c = let b = below_at c in rw b.back (tt, record { fits = omega arith })
+
+pub overflow_add-result : goal.overflow_add-result
+overflow_add-result c = let b = below_at c in rw b.back (omega arith)
+
+pub overflow_cast-result-else-z-lt0 : goal.overflow_cast-result-else-z-lt0
+overflow_cast-result-else-z-lt0 c = above c.args.z c.ranges.z c.if-z-lt0.false
+
+pub returns-then-z-lt0 : goal.returns-then-z-lt0
+returns-then-z-lt0 c = let b = below_at c in rw b.back (omega arith)
