@@ -10,8 +10,4 @@ pub returns-in_default : goal.returns-in_default
 returns-in_default c = search (read-stopped, rules)
 
 pub filled-requires : goal.filled-requires
-filled-requires c =
-    let told = c.before.before.before.before in
-    let counted = told.before.before in
-    let tested = counted.before in
-    fillable _ _ _ _ _ tested.sized.ensures tested.if-not-sized.false-raw _ counted.count-c.ensures _ _ _ _ told.c-1.given.1
+filled-requires c = search (fillable, rules)

@@ -9,7 +9,7 @@ use Rattle.tables.proofs.entry.count_at.Goals.{Else-not-has}
 
 -- the file has the entry's bytes
 room : (c : Else-not-has) → c.args.at + 2 ≤ length c.args.file.now
-room c = has_room _ _ _ c.has.ensures c.if-not-has.false-raw
+room c = search (has_room, rules)
 
 pub returns-then-not-has : goal.returns-then-not-has
 returns-then-not-has c = search (count-short, rules)
@@ -24,7 +24,7 @@ pub returns-then-high-v : goal.returns-then-high-v
 returns-then-high-v c = search (count-high, rules)
 
 pub overflow_add-result : goal.overflow_add-result
-overflow_add-result c = let h = room c.before.before.before in omega arith
+overflow_add-result c = let h = room (goal.at.overflow_add-result c).Else-not-has in omega arith
 
 pub returns : goal.returns
 returns c = search (count-taken, rules)

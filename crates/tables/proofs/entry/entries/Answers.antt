@@ -1,6 +1,5 @@
 -- `entry::entries` meets its contract: what is left to take, after the entries so far, comes to what the whole does.
 use borrow.Author.Rules.{rules}
-use Prim.Native.Nat.{◌-◌}
 use Rattle.tables.proofs.Taking.{enter_begins, enter_goes, enter_stops, enter_ends}
 use Rattle.tables.proofs.entry.entries.Goals as goal
 

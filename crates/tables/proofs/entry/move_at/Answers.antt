@@ -9,7 +9,7 @@ use Rattle.tables.proofs.entry.move_at.Goals.{Else-not-has}
 
 -- the file has the entry's bytes
 room : (c : Else-not-has) → c.args.at + 4 ≤ length c.args.file.now
-room c = has_room _ _ _ c.has.ensures c.if-not-has.false-raw
+room c = search (has_room, rules)
 
 pub returns-then-not-has : goal.returns-then-not-has
 returns-then-not-has c = search (move-short, rules)
@@ -18,10 +18,10 @@ pub bits16-from-requires : goal.bits16-from-requires
 bits16-from-requires c = let h = room c in omega arith
 
 pub overflow_add-at : goal.overflow_add-at
-overflow_add-at c = let h = room c.before in omega arith
+overflow_add-at c = let h = room (goal.at.overflow_add-at c).Else-not-has in omega arith
 
 pub bits16-to-requires : goal.bits16-to-requires
-bits16-to-requires c = let h = room c.before in omega arith
+bits16-to-requires c = let h = room (goal.at.bits16-to-requires c).Else-not-has in omega arith
 
 pub returns-then-size-from : goal.returns-then-size-from
 returns-then-size-from c = search (move-no_from, rules)
@@ -33,7 +33,7 @@ pub returns-then-v-low : goal.returns-then-v-low
 returns-then-v-low c = search (move-falls, rules)
 
 pub overflow_add-result-2 : goal.overflow_add-result-2
-overflow_add-result-2 c = let h = room c.before.before.before.before.before in omega arith
+overflow_add-result-2 c = let h = room (goal.at.overflow_add-result-2 c).Else-not-has in omega arith
 
 pub returns : goal.returns
 returns c = search (move_taken, rules)

@@ -9,7 +9,7 @@ use Rattle.tables.proofs.entry.number_at.Goals.{Else-not-has}
 
 -- the file has the entry's bytes
 room : (c : Else-not-has) → c.args.at + 2 ≤ length c.args.file.now
-room c = has_room _ _ _ c.has.ensures c.if-not-has.false-raw
+room c = search (has_room, rules)
 
 pub returns-then-not-has : goal.returns-then-not-has
 returns-then-not-has c = search (number_short, rules)
@@ -24,7 +24,7 @@ pub returns-then-v-low : goal.returns-then-v-low
 returns-then-v-low c = search (number-falls, rules)
 
 pub overflow_add-result-2 : goal.overflow_add-result-2
-overflow_add-result-2 c = let h = room c.before.before.before in omega arith
+overflow_add-result-2 c = let h = room (goal.at.overflow_add-result-2 c).Else-not-has in omega arith
 
 pub returns : goal.returns
 returns c = search (number-taken, rules)

@@ -1,8 +1,7 @@
 -- `fill::fill_angles` meets its contract: the places so far are filled.
 use borrow.Author.Rules.{rules}
-use Prim.Native.Nat.{◌-◌}
 use Rattle.tables.specs.Control.{angles_of_entries}
-use Rattle.tables.proofs.Filling.{fill_begins, fill_place, angle-goes, fill_same, fill_ends}
+use Rattle.tables.proofs.Filling.{fill_begins, fill_place, angle-goes, fill_ends}
 use Rattle.tables.proofs.fill.fill_angles.Goals as goal
 
 pub loop-i-init : goal.loop-i-init
@@ -13,9 +12,6 @@ bounds-angles-i c = search (fill_place, rules)
 
 pub loop-i-preserved : goal.loop-i-preserved
 loop-i-preserved c = search (angle-goes, rules)
-
-pub UNKNOWN-Need-same-length : goal.UNKNOWN-Need-same-length
-UNKNOWN-Need-same-length c = search (fill_same, rules)
 
 pub returns : goal.returns
 unfolding angles_of_entries

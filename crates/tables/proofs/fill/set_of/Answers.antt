@@ -1,6 +1,5 @@
 -- `fill::set_of` meets its contract: the set of the numbers so far.
 use borrow.Author.Rules.{rules}
-use Prim.Native.Nat.{◌-◌}
 use Rattle.tables.proofs.Filling.{gather_begins, gather_goes, gather_ends}
 use Rattle.tables.proofs.fill.set_of.Goals as goal
 

@@ -20,11 +20,5 @@ put_moves-requires c = search (room_for_moves, rules)
 
 pub returns : goal.returns
 returns c =
-    let moves = c.before.before in
-    let safe = moves.before.before.before.before in
-    let starts = safe.before.before.before.before in
-    let states = starts.before.before.before.before in
-    let size = states.before.before.before.before in
-    let pre = size.requires in
-    put_all _ _ _ _ _ _ _ pre _ _ size.put_bits16-at_states.ensures _ _ states.put_states-at_starts.ensures _ _ starts.put_set-at_safe.ensures
-    _ _ safe.put_set-at_moves.ensures _ _ moves.put_moves.ensures
+    put_all _ _ _ _ _ _ _ c.requires _ _ c.put_bits16-at_states.ensures _ _ c.put_states-at_starts.ensures _ _ c.put_set-at_safe.ensures
+    _ _ c.put_set-at_moves.ensures _ _ c.put_moves.ensures

@@ -1,7 +1,6 @@
 -- `put::put_rows` meets its contract: the moves of the rows so far are written, with room for the others.
 use borrow.Author.Rules.{rules}
-use Prim.Native.Nat.{◌-◌}
-use Rattle.tables.proofs.Putting.{rows_begin, rows_room, rows_go, rows_same, rows_end}
+use Rattle.tables.proofs.Putting.{rows_begin, rows_room, rows_go, rows_end}
 use Rattle.tables.proofs.put.put_rows.Goals as goal
 
 pub loop-from-init : goal.loop-from-init
@@ -12,9 +11,6 @@ put_members-at-requires c = search (rows_room, rules)
 
 pub loop-from-preserved : goal.loop-from-preserved
 loop-from-preserved c = search (rows_go, rules)
-
-pub UNKNOWN-Need-same-length : goal.UNKNOWN-Need-same-length
-UNKNOWN-Need-same-length c = search (rows_same, rules)
 
 pub returns : goal.returns
 returns c = search (rows_end, rules)

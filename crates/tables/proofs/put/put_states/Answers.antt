@@ -1,7 +1,6 @@
 -- `put::put_states` meets its contract: the entries of the states so far are written, with room for the others.
 use borrow.Author.Rules.{rules}
-use Prim.Native.Nat.{◌-◌}
-use Rattle.tables.proofs.Putting.{states-begin, states-room, states-go, states-same, states-end}
+use Rattle.tables.proofs.Putting.{states-begin, states-room, states-go, states-end}
 use Rattle.tables.proofs.put.put_states.Goals as goal
 
 pub loop-s-init : goal.loop-s-init
@@ -12,9 +11,6 @@ put_entry-at-requires c = search (states-room, rules)
 
 pub loop-s-preserved : goal.loop-s-preserved
 loop-s-preserved c = search (states-go, rules)
-
-pub UNKNOWN-Need-same-length : goal.UNKNOWN-Need-same-length
-UNKNOWN-Need-same-length c = search (states-same, rules)
 
 pub returns : goal.returns
 returns c = search (states-end, rules)

@@ -18,7 +18,7 @@ pub returns-then-a-ge0 : goal.returns-then-a-ge0
 returns-then-a-ge0 c = let u = upper c in rw (u.read, u.is) (record { is = refl; below = omega arith })
 
 pub overflow_sub-result : goal.overflow_sub-result
-overflow_sub-result c = (lower c).ranges
+overflow_sub-result c = (lower c).fits
 
 pub overflow_cast-result-2 : goal.overflow_cast-result-2
 overflow_cast-result-2 c = let l = lower c in rw l.read (tt, record { fits = omega arith })

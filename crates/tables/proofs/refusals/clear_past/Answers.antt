@@ -1,6 +1,5 @@
 -- `refusals::clear_past` meets its contract: every place so far is clear.
 use borrow.Author.Rules.{rules}
-use Prim.Native.Nat.{◌-◌}
 use Rattle.rules.proofs.Loops.{all-begins, all-goes, all-fails, all-ends}
 use Rattle.tables.specs.Control.{clear_past}
 use Rattle.tables.proofs.refusals.clear_past.Goals as goal

@@ -1,6 +1,5 @@
 -- `refusals::labelled` meets its contract: the labels of every state so far are in range.
 use borrow.Author.Rules.{rules}
-use Prim.Native.Nat.{◌-◌}
 use Rattle.rules.proofs.Loops.{all-begins, all-goes, all-fails, all-ends}
 use Rattle.tables.specs.Control.{labelled}
 use Rattle.tables.proofs.refusals.labelled.Goals as goal
