@@ -15,8 +15,9 @@ loop-s-preserved c =
     let going = c.loop-s.invariant in
     let more = c.loop-s-test.true in
     elim c.if-member.branch [
-      then-member w ↦ member-in _ _ _ _ _ _ _ _ going more _ c.member.ensures _ _ w.if-member.true _ _ w.put_entry-at.ensures w.at-is w.out-is
-      | else-member w ↦ member-out _ _ _ _ _ _ _ _ going more _ c.member.ensures _ _ w.if-member.false w.at-is w.out-is ]
+      | then-member w ↦ member-in _ _ _ _ _ _ _ _ going more _ c.member.ensures _ _ w.if-member.true _ _ w.put_entry-at.ensures w.at-is w.out-is
+      | else-member w ↦ member-out _ _ _ _ _ _ _ _ going more _ c.member.ensures _ _ w.if-member.false w.at-is w.out-is
+    ]
 
 pub returns : goal.returns
 returns c = search (members_end, rules)
