@@ -5,8 +5,7 @@ use native.Mathlib.Nat.{mul-le-mul_right}
 use native.Mathlib.Omega.{arith}
 use mir.Syntax.{w64}
 use mir.Val.{Fits}
-use Rattle.checks.proofs.budget.Statement.{statement}
-use Rattle.checks.proofs.budget.Tie as tie
+use Rattle.checks.proofs.budget.Goals as goal
 
 module _ (n : ℕ) (small : n < 2 ^ 16) where
   square : n * n ≤ 65535 * n
@@ -21,15 +20,14 @@ module _ (n : ℕ) (small : n < 2 ^ 16) where
   budget-fits : Fits w64 (2 * (n * n) + 2 * n)
   budget-fits = record { fits = omega (arith, square) }
 
-returns : tie.Need-returns
+pub returns : goal.returns
 returns c = search rules
 
-pub budget-spec : {M : Type 1} → statement M
-budget-spec =
-    tie.close
-    (tie.spec
-    (λ c. search (square-fits, rules))
-    (λ c. search (twice-fits, rules))
-    (λ c. search rules)
-    (λ c. search (budget-fits, rules))
-    returns)
+pub overflow_mul-result : goal.overflow_mul-result
+overflow_mul-result c = search (square-fits, rules)
+
+pub overflow_mul-result-2 : goal.overflow_mul-result-2
+overflow_mul-result-2 c = search (twice-fits, rules)
+
+pub overflow_add-result : goal.overflow_add-result
+overflow_add-result c = search (budget-fits, rules)
