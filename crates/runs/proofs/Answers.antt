@@ -21,11 +21,11 @@ use Rattle.rules.proofs.Normal.{run_normal}
 use Rattle.rules.proofs.Reading.{x_is, k_is}
 use Rattle.rules.proofs.Ready.{Ready, ready_by}
 use Rattle.rules.specs.Buffer.{encode, decode, Normal}
-use Rattle.rules.specs.Rules.{no_room, conclusion, conclusion_of, due, fire, State, Standing, Rule, safe, reached, unfinished}
+use Rattle.rules.specs.Rules.{no_room, conclusion, conclusion_of, due, fire, State, Standing, safe, reached, unfinished}
 use Rattle.rules.specs.Runs as runs
 use Rattle.rules.specs.Runs.{lacks_room, lacks_room_for, run}
 use Rattle.rules.specs.ShownWalk.{shown_walk}
-use Rattle.rules.specs.Single.{takes, single, Fired}
+use Rattle.rules.specs.Single.{takes, single}
 use Rattle.rules.specs.Table.{Table}
 use Rattle.runs.proofs.Choices.{hints_words}
 use Rattle.runs.proofs.Enums.{due-as, stands_as, stands_by, concluded, still_open}

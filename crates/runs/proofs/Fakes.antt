@@ -16,7 +16,7 @@ use Rattle.rules.specs.Walks.{LeadsToBad, RealWalk, arrived, onward}
 use Rattle.runs.proofs.Demands.{big, fit}
 use Rattle.runs.specs.Demands.{Refuses, Ends, RunDemand2}
 use Rattle.runs.specs.Fakes.{Fakes, StoredWalk}
-use Rattle.runs.specs.Said.{Outcome, not_ended, said}
+use Rattle.runs.specs.Said.{not_ended, said}
 use Rattle.runs.specs.declared.Outcome as outcome
 use Rattle.runs.specs.declared.RunAnswer.{RunAnswer}
 

@@ -14,7 +14,6 @@ use Rattle.rules.proofs.Reading.{conflict_256, n_is}
 use Rattle.rules.proofs.Ready.{Ready, ready_by, ready_holds}
 use Rattle.rules.specs.Buffer.{encode, decode, Normal}
 use Rattle.rules.specs.Rules.{due, fire, after_unfold, after_candidate, after_decide, after_conflict, house}
-use Rattle.rules.specs.Runs as runs
 use Rattle.rules.specs.Runs.{choose, next, pick, offered, asks, will_do, lacks_room_for}
 use Rattle.rules.specs.Table.{Table}
 use Rattle.runs.proofs.Closing.{climbs_by}
