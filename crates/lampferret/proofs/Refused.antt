@@ -12,7 +12,7 @@ use lib.ListN.{length, drop}
 use Rattle.answers.proofs.Order.{numbers_in, failing_in}
 use Rattle.answers.proofs.Values.{no_value}
 use Rattle.answers.specs.Answer.{Answer, refused, given, unless_refused}
-use Rattle.answers.specs.Refusals.{one_of, no_room, first_failing}
+use Rattle.answers.specs.Refusals.{one_of, first_failing}
 use Rattle.sets.specs.Sets.{Set, in_range, size_refusal}
 use Rattle.turns.specs.Turn.{is_angle, between, turn_of}
 use Rattle.rules.specs.Buffer.{encode, decode}
