@@ -197,9 +197,6 @@ module _ (b : List ℕ) (start k : ℕ) (rows : List ℕ) where
             ∙ ap rows_of_entries (sym (values-more (move 0) b start i));
       }
 
-  pub add_same : (i : ℕ) → Adding b start k rows i → (l : List ℕ) → length l ≡ 1024 → length rows ≡ length l
-  add_same i v l e = ap length v.is ∙ length-rows _ ∙ sym e
-
   pub add_ends : (i : ℕ) → Adding b start k rows i → k ≤ i → rows ≡ rows_of_entries (values (move 0) b start k)
   add_ends i v l = let e : i ≡ k = omega (arith, v.in-range) in rw e at v.is
 
@@ -221,9 +218,6 @@ module _ {A : Type 0} (d : A) (h : ℕ → A) (l : List A) (n : ℕ) where
 
     pub fill_ends : n ≤ i → x ≡ tabulate n h
     fill_ends k = fill_all d h l x i n f.so_far k m
-
-  pub fill_same : (x : List A) (i : ℕ) → FilledTo d h l x n i → length x ≡ length l
-  fill_same x i f = f.so_far.same
 
 -- ---- angles and modes, from the entry q of a state
 abbrev pub angle_of : List ℕ → ℕ → ℤ

@@ -233,9 +233,6 @@ module _ (K : Kind) (base : ℕ) (x : Set) (out₀ : List ℕ) (start : ℕ) whe
     pub members_end : 256 ≤ s → Put out₀ start (entries_bytes K (members_from base x)) at out
     members_end l = let e : s ≡ 256 = omega (arith, v.in-range) in rw e at v.entered.put
 
-    pub members_same : length out ≡ length out₀
-    members_same = put_same out₀ start _ at out v.entered.put
-
 -- ---- the section of a set: how many members, then the members
 from_zero : (x : Set) → members_from 0 x ≡ passing (member x) 0 256
 unfolding member_from
@@ -281,51 +278,48 @@ state-is angles modes s ok u eu m em =
     ap₂ (λ (x y : ℕ). x * 256 + y) (eu.is ∙ ap unsigned (to_z-of_z w16 (get_or angles s (pos 0)) (record { sfits = ok }))) em.is
 
 -- ---- the loop of `put_states` at state s
-pub record States (number_of_lem : ℕ → ℕ) (N : ℕ) (out₀ : List ℕ) (start at : ℕ) (out : List ℕ) (s : ℕ) : Type 0 where
+pub record States (number_of : ℕ → ℕ) (N : ℕ) (out₀ : List ℕ) (start at : ℕ) (out : List ℕ) (s : ℕ) : Type 0 where
   pub in-range : s ≤ N
-  pub entered : Entered state out₀ start (tabulate s number_of_lem) (tabulate (N - s) (λ i. number_of_lem (s + i))) at out
+  pub entered : Entered state out₀ start (tabulate s number_of) (tabulate (N - s) (λ i. number_of (s + i))) at out
 
-module _ (number_of_lem : ℕ → ℕ) (N : ℕ) where
-  states-next : (s : ℕ) → s < N → tabulate (N - s) (λ i. number_of_lem (s + i)) ≡ number_of_lem s ∷ tabulate (N - (s + 1)) (λ i. number_of_lem (s + 1 + i))
+module _ (number_of : ℕ → ℕ) (N : ℕ) where
+  states-next : (s : ℕ) → s < N → tabulate (N - s) (λ i. number_of (s + i)) ≡ number_of s ∷ tabulate (N - (s + 1)) (λ i. number_of (s + 1 + i))
   unfolding tabulate
   states-next s l =
       let e : N - s ≡ suc (N - (s + 1)) = omega arith in
       let z : s + 0 ≡ s = omega arith in
       rw (e, z)
-      (ap (λ (vs : List ℕ). number_of_lem s ∷ vs) (tabulate-ext 0 (N - (s + 1)) _ _ (λ i m. let f : s + suc i ≡ s + 1 + i = omega arith in ap number_of_lem f)))
+      (ap (λ (vs : List ℕ). number_of s ∷ vs) (tabulate-ext 0 (N - (s + 1)) _ _ (λ i m. let f : s + suc i ≡ s + 1 + i = omega arith in ap number_of f)))
 
   module _ (out₀ : List ℕ) (start : ℕ) where
-    pub states-begin : Room out₀ start (entries_bytes state (tabulate N number_of_lem)) → States number_of_lem N out₀ start start out₀ 0
+    pub states-begin : Room out₀ start (entries_bytes state (tabulate N number_of)) → States number_of N out₀ start start out₀ 0
     states-begin r = record {
       in-range = omega arith;
       entered =
           let e : N - 0 ≡ N = omega arith in
-          rw (tabulate-none, e, tabulate-ext 0 N (λ i. number_of_lem (0 + i)) number_of_lem (λ i l. let z : 0 + i ≡ i = omega arith in ap number_of_lem z))
-          (enter_none state out₀ start (tabulate N number_of_lem) r);
+          rw (tabulate-none, e, tabulate-ext 0 N (λ i. number_of (0 + i)) number_of (λ i l. let z : 0 + i ≡ i = omega arith in ap number_of z))
+          (enter_none state out₀ start (tabulate N number_of) r);
     }
 
-    module _ (at : ℕ) (out : List ℕ) (s : ℕ) (v : States number_of_lem N out₀ start at out s) where
-      module _ (l : s < N) (k : ℕ) (e : k ≡ number_of_lem s) where
-        at-state : Entered state out₀ start (tabulate s number_of_lem) (k ∷ tabulate (N - (s + 1)) (λ i. number_of_lem (s + 1 + i))) at out
+    module _ (at : ℕ) (out : List ℕ) (s : ℕ) (v : States number_of N out₀ start at out s) where
+      module _ (l : s < N) (k : ℕ) (e : k ≡ number_of s) where
+        at-state : Entered state out₀ start (tabulate s number_of) (k ∷ tabulate (N - (s + 1)) (λ i. number_of (s + 1 + i))) at out
         at-state = rw (states-next s l, ← e) at v.entered
 
         pub states-room : Room out at ((section_number 1 0).kind.bytes k)
         unfolding section_number
-        states-room = enter_room state out₀ start (tabulate s number_of_lem) at out k _ at-state
+        states-room = enter_room state out₀ start (tabulate s number_of) at out k _ at-state
 
         pub states-go : (at' : ℕ) (out' : List ℕ) → Put out at ((section_number 1 0).kind.bytes k) at' out'
-            → States number_of_lem N out₀ start at' out' (s + 1)
+            → States number_of N out₀ start at' out' (s + 1)
         unfolding section_number
         states-go at' out' p = record {
           in-range = omega arith;
-          entered = rw (tabulate-more s number_of_lem, ← e) (enter_one state out₀ start (tabulate s number_of_lem) at out k _ at-state at' out' p);
+          entered = rw (tabulate-more s number_of, ← e) (enter_one state out₀ start (tabulate s number_of) at out k _ at-state at' out' p);
         }
 
-      pub states-end : N ≤ s → Put out₀ start (entries_bytes state (tabulate N number_of_lem)) at out
+      pub states-end : N ≤ s → Put out₀ start (entries_bytes state (tabulate N number_of)) at out
       states-end l = let e : s ≡ N = omega (arith, v.in-range) in rw e at v.entered.put
-
-      pub states-same : length out ≡ length out₀
-      states-same = put_same out₀ start _ at out v.entered.put
 
 -- ---- the moves, row by row
 quad-past : (b : List ℕ) (i q : ℕ) → 4 ≤ q → get_or (quad b i) q 0 ≡ 0
@@ -455,6 +449,3 @@ module _ (rows out₀ : List ℕ) (start : ℕ) where
 
     pub rows_end : 256 ≤ s → Put out₀ start (entries_bytes (move 0) (passing (is_move rows) 0 16777216)) at out
     rows_end l = let e : s ≡ 256 = omega (arith, v.in-range) in rw e at v.entered.put
-
-    pub rows_same : length out ≡ length out₀
-    rows_same = put_same out₀ start _ at out v.entered.put

@@ -1,6 +1,7 @@
 -- The file, as document 01 has it: four sections, each after its 16-bit count, little-endian. Both reading and writing are defined from
 -- the kinds of entries below. An entry is a number: a state is its angle's 16 bits times 256 plus its mode, a move is from times 65,536 plus to.
-use Rattle.std.specs.Prelude.{ℕ, zero, suc, ◌+◌, ◌-◌, ◌*◌, ◌/◌, ◌%◌, Bool, true, false, not, ◌&&◌, ◌||◌, cond, List, [], ◌∷◌, ◌++◌, eqb, leb, ltb, ℤ, pos, negsuc, length, get_or}
+use Rattle.std.specs.Prelude.{ℕ, zero, suc, ◌+◌, ◌-◌, ◌*◌, ◌/◌, ◌%◌, Bool, true, false, not, ◌&&◌, ◌||◌, cond}
+use Rattle.std.specs.Prelude.{List, [], ◌∷◌, ◌++◌, eqb, leb, ltb, ℤ, pos, negsuc, length, get_or}
 use Rattle.answers.specs.Refusals.{cut_short, out_of_range, bad_label, no_such_state, not_rising, extra_bytes}
 use Rattle.turns.specs.Turn.{is_angle}
 
