@@ -2,8 +2,7 @@
 // which `checks::check` makes and promises.
 #![tactic(auto)]
 
-ghost use Rattle.std.specs.Prelude.{IfOk};
-ghost use Rattle.io.specs.Counts.{IsPrefixLen};
+ghost use Rattle.std.specs.Prelude.{IfOk, ◌≤◌, length};
 
 use listings::Listed;
 use std::io;
@@ -11,7 +10,7 @@ use std::io::Read;
 
 // Reads until the buffer is full or the input ends, and answers how many bytes it put at the buffer's start.
 fn read_full(input: &mut impl Read, b: &mut [u8]) -> io::Result<usize>
-    ensures { IfOk result (λ n. IsPrefixLen n b.new) }
+    ensures { IfOk result (λ n. n ≤ length b.new) }
 {
     let mut done = 0;
     while done < b.len() {
