@@ -1,6 +1,7 @@
 -- What the calls on two tables promise: the refusal, in the order of document 02, and what both tables hold then.
 use Rattle.std.specs.Prelude.{ℕ, Bool, not, cond, List, [], ◌∷◌, ◌++◌, ◌≡◌, eqb, ltb, length}
-use Rattle.answers.specs.Refusals.{no_refusal, out_of_range, no_such_state, wrong_length, not_sound, tables_disagree, nothing_to_edit, Test, ◌unless◌, first_failing}
+use Rattle.answers.specs.Refusals.{no_refusal, out_of_range, no_such_state, wrong_length, not_sound, tables_disagree, nothing_to_edit}
+use Rattle.answers.specs.Refusals.{Test, ◌unless◌, first_failing}
 use Rattle.sets.specs.Sets.{Set, sound, in_range}
 use Rattle.rules.specs.Second.{second_of, alike, agree}
 use Rattle.rules.specs.Table.{leads, sound_rows, with_move}

@@ -16,7 +16,8 @@ use Rattle.rules.proofs.Entry.{true_held, held-is, leb-true, leb-false, ranges-s
 use Rattle.rules.proofs.Held.{held_by}
 use Rattle.rules.proofs.Reading.{x_is, y_is, n_is, k_is, parts-256, proper_forward, proper_backward}
 use Rattle.rules.proofs.Ready.{Good, Spans, Shaped}
-use Rattle.rules.specs.Buffer.{decode, each, held, clear_x, clear_y, unused, sound_x, sound_y, rises, falls, parts, topped, ranges, entry_tests, entry_check, Normal}
+use Rattle.rules.specs.Buffer.{decode, each, held, clear_x, clear_y, unused, sound_x, sound_y, rises, falls, parts}
+use Rattle.rules.specs.Buffer.{topped, ranges, entry_tests, entry_check, Normal}
 use Rattle.rules.specs.Table.{Table, f}
 use Rattle.sets.proofs.Tests.{not-true, not-false}
 use Rattle.sets.proofs.Within.{within-256}

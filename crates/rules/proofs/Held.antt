@@ -109,7 +109,8 @@ module _ (t : Table) (big : t.size ≤ 256) (b : List ℕ) (len : length b ≡ 2
         record {
           proper_x = λ j. in_use (ltb j (get_or b 0 0)) (2 + 4 * j) (λ e. x_kept j (let h : j < get_or b 0 0 = ltb-true j (get_or b 0 0) e in omega arith));
           proper_y = λ j. in_use (leb (get_or b 1 0) j && ltb j (get_or b 0 0)) (1034 + 4 * j)
-              (λ e. y_kept j (let h : j < get_or b 0 0 = ltb-true j (get_or b 0 0) (and-true (leb (get_or b 1 0) j) (ltb j (get_or b 0 0)) e).1 in omega arith));
+              (λ e. y_kept j
+              (let h : j < get_or b 0 0 = ltb-true j (get_or b 0 0) (and-true (leb (get_or b 1 0) j) (ltb j (get_or b 0 0)) e).1 in omega arith));
           x_end = λ j l. rw (le-ltb j (get_or b 0 0) l);
           y_end = λ j l. rw (le-ltb j (get_or b 0 0) l, and-false);
           y_low = λ j l. rw (lt-leb (get_or b 1 0) j l);

@@ -1,6 +1,6 @@
 -- The run buffer: 2,066 words that hold a state, and the entry check as a test on those words.
 use Rattle.std.specs.Prelude.{ℕ, suc, ◌+◌, ◌-◌, ◌*◌, ◌≤◌, ◌<◌, ◌/◌, ◌%◌, Bool, true, not, ◌&&◌, cond, ◌||◌, List, [], ◌∷◌, ◌++◌, ◌≡◌, ltb, leb, get_or}
-use Rattle.rules.specs.Rules.{state, State, safe}
+use Rattle.rules.specs.Rules.{state, State}
 use Rattle.rules.specs.Table.{f, g, Table}
 use Rattle.sets.specs.Lists.{tabulate}
 use Rattle.sets.specs.Search.{all}

@@ -2,24 +2,24 @@
 use crate::print::at;
 use crate::{lent, names, print, script};
 use sets::StateSet;
+use std::io;
 use turns::Turned;
 
-fn full(n: u16) {
+fn full(rt: &impl Print, n: u16) -> io::Result<()> {
     let r = StateSet::full(n);
     let no = r.refusal;
     if no != 0 {
-        print::refused(no);
-        return;
+        return print::refused(rt, no);
     }
     let all = r.set;
-    print::set(all);
+    print::set(rt, all)
 }
 
-fn turn(a: i16, b: i16) {
+fn turn(rt: &impl Print, a: i16, b: i16) -> io::Result<()> {
     let t = turns::turn(a, b);
     match t {
-        Turned::By(d) => print::angle(d),
-        Turned::Refused(no) => print::refused(no),
+        Turned::By(d) => print::angle(rt, d),
+        Turned::Refused(no) => print::refused(rt, no),
     }
 }
 
@@ -35,35 +35,38 @@ fn made(c: u64, i: StateSet, p: StateSet, s: u16) -> StateSet {
     }
 }
 
-fn answer(yes: bool) {
-    print::word(if yes { names::YES } else { names::NO });
+fn answer(rt: &impl Print, yes: bool) -> io::Result<()> {
+    print::word(rt, if yes { names::YES } else { names::NO })
 }
 
-fn sets(c: u64, i: StateSet, p: StateSet, s: u16) {
+fn sets(rt: &impl Print, c: u64, i: StateSet, p: StateSet, s: u16) -> io::Result<()> {
     match c {
         names::SET | names::MEET | names::JOIN | names::MINUS | names::WITH | names::WITHOUT => {
-            print::set(made(c, i, p, s));
+            print::set(rt, made(c, i, p, s))
         }
-        names::MEMBER => answer(i.member(s)),
-        names::WITHIN => answer(i.within(p)),
-        names::FULL => full(s),
-        _ => {}
+        names::MEMBER => answer(rt, i.member(s)),
+        names::WITHIN => answer(rt, i.within(p)),
+        names::FULL => full(rt, s),
+        _ => Ok(()),
     }
 }
 
-pub fn step(m: &[u64], run: &[u64]) {
+pub fn step(rt: &impl Print, m: &[u64], run: &[u64]) -> io::Result<()> {
     let k = lent::model(m);
     let c = at(m, 0);
     let a = at(m, 1);
-    sets(c, k.starts, k.safe, script::small(a));
+    sets(rt, c, k.starts, k.safe, script::small(a))?;
     match c {
-        names::TURN => turn(script::signed(a), script::signed(at(m, 2))),
-        names::AT => print::set(StateSet::read(
-            lent::part(run, 0, lent::length(m, lent::LENGTHS + 1)),
-            a as usize,
-        )),
-        names::FIRST => print::words(lent::part(run, 0, a as usize), false),
-        names::HEX => print::words(lent::part(run, 0, a as usize), true),
-        _ => {}
+        names::TURN => turn(rt, script::signed(a), script::signed(at(m, 2))),
+        names::AT => print::set(
+            rt,
+            StateSet::read(
+                lent::part(run, 0, lent::length(m, lent::LENGTHS + 1)),
+                a as usize,
+            ),
+        ),
+        names::FIRST => print::words(rt, lent::part(run, 0, a as usize), false),
+        names::HEX => print::words(rt, lent::part(run, 0, a as usize), true),
+        _ => Ok(()),
     }
 }

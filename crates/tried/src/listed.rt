@@ -2,30 +2,29 @@
 use crate::lent::length;
 use crate::print::{at, named, word};
 use crate::{lent, names, print, script};
-use libc::STDOUT_FILENO;
 use listings::Listed;
 use sets::StateSet;
+use std::io;
 
 // The listing that a call put into an output, or its refusal.
-fn show(r: Listed, out: &[u8]) {
+fn show(rt: &impl Print, r: Listed, out: &[u8]) -> io::Result<()> {
     match r {
-        Listed::Length(n) => {
-            io::write_all(STDOUT_FILENO, lent::bytes(out, n));
-        }
+        Listed::Length(n) => rt.write_all(lent::bytes(out, n)),
         Listed::Refused(no) => {
-            print::say(names::THE);
-            word(names::CALL);
-            word(names::IS);
-            word(names::REFUSED);
-            named(names::WITH, no as u64);
-            print::say(names::END);
+            print::say(rt, names::THE)?;
+            word(rt, names::CALL)?;
+            word(rt, names::IS)?;
+            word(rt, names::REFUSED)?;
+            named(rt, names::WITH, no as u64)?;
+            print::say(rt, names::END)
         }
     }
 }
 
 // j, the rules, and the set.
-fn safe(m: &[u64], out: &mut [u8]) {
+fn safe(rt: &impl Print, m: &[u64], out: &mut [u8]) -> io::Result<()> {
     show(
+        rt,
         listings::safe(
             lent::moves(m),
             lent::model(m),
@@ -35,7 +34,7 @@ fn safe(m: &[u64], out: &mut [u8]) {
             out,
         ),
         out,
-    );
+    )
 }
 
 fn put(b: &mut [u16; 257], at: usize, w: u64) {
@@ -54,9 +53,16 @@ fn walk(m: &[u64]) -> [u16; 257] {
 }
 
 // The states of the walk, the rules, and the walk.
-fn reached(m: &[u64], angles: &[i16], modes: &[u8], out: &mut [u8]) {
+fn reached(
+    rt: &impl Print,
+    m: &[u64],
+    angles: &[i16],
+    modes: &[u8],
+    out: &mut [u8],
+) -> io::Result<()> {
     let walk = walk(m);
     show(
+        rt,
         listings::reached(
             lent::moves(m),
             lent::model(m),
@@ -68,37 +74,48 @@ fn reached(m: &[u64], angles: &[i16], modes: &[u8], out: &mut [u8]) {
             out,
         ),
         out,
-    );
+    )
 }
 
 // A listing put into the output as it is lent.
-fn listed(m: &[u64], c: u64, angles: &[i16], modes: &[u8], out: &mut [u8]) {
+fn listed(
+    rt: &impl Print,
+    m: &[u64],
+    c: u64,
+    angles: &[i16],
+    modes: &[u8],
+    out: &mut [u8],
+) -> io::Result<()> {
     match c {
         names::REFUSED => show(
+            rt,
             listings::refused(script::low(at(m, 1)), length(m, 2), out),
             out,
         ),
-        names::SAFE => safe(m, out),
-        names::REACHED => reached(m, angles, modes, out),
-        names::SHOW => {
-            io::write_all(STDOUT_FILENO, out);
-        }
-        _ => {}
+        names::SAFE => safe(rt, m, out),
+        names::REACHED => reached(rt, m, angles, modes, out),
+        names::SHOW => rt.write_all(out),
+        _ => Ok(()),
     }
 }
 
-pub fn step(m: &[u64], angles: &[i16], modes: &[u8], bytes: &mut [u8]) {
+pub fn step(
+    rt: &impl Print,
+    m: &[u64],
+    angles: &[i16],
+    modes: &[u8],
+    bytes: &mut [u8],
+) -> io::Result<()> {
     let c = at(m, 0);
     match c {
-        names::REFUSED | names::SAFE | names::REACHED | names::SHOW => {
-            listed(
-                m,
-                c,
-                angles,
-                modes,
-                lent::bytes_mut(bytes, length(m, lent::LABELS + 2)),
-            );
-        }
-        _ => {}
+        names::REFUSED | names::SAFE | names::REACHED | names::SHOW => listed(
+            rt,
+            m,
+            c,
+            angles,
+            modes,
+            lent::bytes_mut(bytes, length(m, lent::LABELS + 2)),
+        ),
+        _ => Ok(()),
     }
 }

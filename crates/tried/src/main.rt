@@ -11,10 +11,12 @@ mod print;
 mod script;
 mod search;
 
-use libc::STDIN_FILENO;
+use std::io;
+use std::io::Read;
 
 // Takes a line: what it lends, and then the call that it asks for.
 fn step(
+    rt: &impl Print,
     text: &[u8; 32768],
     from: usize,
     m: &mut [u64; 1089],
@@ -22,11 +24,11 @@ fn step(
     angles: &mut [i16; 257],
     modes: &mut [u8; 18184],
     bytes: &mut [u8; 18184],
-) -> usize {
-    let next = script::line(text, from, m);
+) -> io::Result<usize> {
+    let next = script::line(rt, text, from, m)?;
     lend(m, run, angles, modes, bytes);
-    call(m, run, angles, modes, bytes);
-    next
+    call(rt, m, run, angles, modes, bytes)?;
+    Ok(next)
 }
 
 // What a line lends.
@@ -48,18 +50,38 @@ fn lend(
 }
 
 // The call that a line asks for.
-fn call(m: &[u64], run: &mut [u64; 2067], angles: &[i16], modes: &[u8], bytes: &mut [u8]) {
+fn call(
+    rt: &impl Print,
+    m: &[u64],
+    run: &mut [u64; 2067],
+    angles: &[i16],
+    modes: &[u8],
+    bytes: &mut [u8],
+) -> io::Result<()> {
     let old = *run;
-    ground::step(m, run);
-    search::moves(m);
-    search::step(m, run, &old);
-    files::step(m, angles, modes, bytes);
-    listed::step(m, angles, modes, bytes);
+    ground::step(rt, m, run)?;
+    search::moves(rt, m)?;
+    search::step(rt, m, run, &old)?;
+    files::step(rt, m, angles, modes, bytes)?;
+    listed::step(rt, m, angles, modes, bytes)
 }
 
-fn main() {
+// Reads until the buffer is full or the input ends; what is not read stays.
+fn read_full(input: &mut impl Read, b: &mut [u8]) -> io::Result<()> {
+    let mut done = 0;
+    while done < b.len() {
+        let n = input.read(&mut b[done..])?;
+        if n == 0 {
+            break;
+        }
+        done += n;
+    }
+    Ok(())
+}
+
+fn main(rt: HostRuntime) -> io::Result<()> {
     let mut text = [0u8; 32768];
-    io::read_full(STDIN_FILENO, &mut text);
+    read_full(&mut rt.stdin(), &mut text)?;
     let mut m = [0u64; 1089];
     let mut run = [0u64; 2067];
     let mut angles = [0i16; 257];
@@ -68,6 +90,7 @@ fn main() {
     let mut from: usize = 0;
     for i in 0..2000u64 {
         from = step(
+            &rt,
             &text,
             from,
             &mut m,
@@ -75,6 +98,7 @@ fn main() {
             &mut angles,
             &mut modes,
             &mut bytes,
-        );
+        )?;
     }
+    Ok(())
 }

@@ -2,24 +2,28 @@
 // minus sign; those of `file` are hexadecimal. What follows `say ` is text, an empty line ends a line of output, and a
 // line with another command than those of `names` does nothing.
 use crate::{names, print};
-use libc::STDOUT_FILENO;
 use sets::StateSet;
-use std::num::wrapping_add_u64;
+use std::io;
 
 // Takes the line at a place into the first words: the command and its numbers, followed by zeros. Answers where the next
 // line starts.
-pub fn line(text: &[u8; 32768], from: usize, m: &mut [u64; 1089]) -> usize {
+pub fn line(
+    rt: &impl Print,
+    text: &[u8; 32768],
+    from: usize,
+    m: &mut [u64; 1089],
+) -> io::Result<usize> {
     let mut k = 0;
     m[0] = 0;
     for i in from..32768 {
         let b = byte(text, i);
         if b == b'\n' {
-            tell(text, m[0], from, i);
-            return i + 1;
+            tell(rt, text, m[0], from, i)?;
+            return Ok(i + 1);
         }
         k = taken(m, k, b);
     }
-    32768
+    Ok(32768)
 }
 
 // The byte of the text at a place.
@@ -59,7 +63,7 @@ fn grown(n: u64, b: u8, k: usize, command: u64) -> u64 {
 }
 
 fn tens(n: u64, d: u64) -> u64 {
-    wrapping_add_u64(wrapping_add_u64(n << 3, n << 1), d)
+    (n << 3).wrapping_add(n << 1).wrapping_add(d)
 }
 
 // The value of a digit.
@@ -72,19 +76,20 @@ fn value(b: u8) -> u64 {
 }
 
 // What a line from a place to a place has printed by itself: a text, or an end.
-fn tell(text: &[u8], command: u64, from: usize, end: usize) {
+fn tell(rt: &impl Print, text: &[u8], command: u64, from: usize, end: usize) -> io::Result<()> {
     if command == 0 {
-        print::say(names::END);
+        print::say(rt, names::END)?;
     }
     if command == names::SAY {
         if end <= text.len() {
             if 4 <= end {
                 if from <= end - 4 {
-                    io::write_all(STDOUT_FILENO, &text[from + 4..end]);
+                    rt.write_all(&text[from + 4..end])?;
                 }
             }
         }
     }
+    Ok(())
 }
 
 // A number as a state or a size.

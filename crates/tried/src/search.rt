@@ -5,128 +5,130 @@ use crate::print::{at, named, word};
 use crate::{lent, names, print, script};
 use runs::{Asked, Outcome, Rule, RunAnswer};
 use sets::{SetAnswer, StateSet};
+use std::io;
 
 // A refusal, and the words of the answer.
-fn moved(m: SetAnswer) {
+fn moved(rt: &impl Print, m: SetAnswer) -> io::Result<()> {
     let no = m.refusal;
     if no != 0 {
-        print::refused(no);
+        print::refused(rt, no)?;
     }
-    word(names::SET);
+    word(rt, names::SET)?;
     let set = m.set;
-    print::four(set, false);
+    print::four(rt, set, false)
 }
 
 // f or g of a set.
-pub fn moves(m: &[u64]) {
+pub fn moves(rt: &impl Print, m: &[u64]) -> io::Result<()> {
     let n = script::small(at(m, lent::STATES));
     let c = at(m, 0);
     match c {
-        names::F => moved(moves::f(lent::moves(m), n, StateSet::read(m, 1))),
-        names::G => moved(moves::g(lent::moves(m), n, StateSet::read(m, 1))),
-        _ => {}
+        names::F => moved(rt, moves::f(lent::moves(m), n, StateSet::read(m, 1))),
+        names::G => moved(rt, moves::g(lent::moves(m), n, StateSet::read(m, 1))),
+        _ => Ok(()),
     }
 }
 
-fn fresh(n: u16, run: &mut [u64]) {
+fn fresh(rt: &impl Print, n: u16, run: &mut [u64]) -> io::Result<()> {
     let no = runs::fresh(n, run);
     if no == 0 {
-        word(names::MADE);
+        word(rt, names::MADE)
     } else {
-        print::refused(no);
+        print::refused(rt, no)
     }
 }
 
-fn fired(rule: Rule) {
-    word(names::FIRED);
+fn fired(rt: &impl Print, rule: Rule) -> io::Result<()> {
+    word(rt, names::FIRED)?;
     match rule {
-        Rule::Unfold => word(names::UNFOLD),
+        Rule::Unfold => word(rt, names::UNFOLD),
         Rule::Candidate => {
-            word(names::CANDIDAT);
-            print::say(names::E);
+            word(rt, names::CANDIDAT)?;
+            print::say(rt, names::E)
         }
-        Rule::Decide => word(names::DECIDE),
-        Rule::Conflict => word(names::CONFLICT),
+        Rule::Decide => word(rt, names::DECIDE),
+        Rule::Conflict => word(rt, names::CONFLICT),
     }
 }
 
-fn asked(a: Asked) {
+fn asked(rt: &impl Print, a: Asked) -> io::Result<()> {
     match a {
-        Asked::Fired(rule) => fired(rule),
-        Asked::Refused(no) => print::refused(no),
+        Asked::Fired(rule) => fired(rt, rule),
+        Asked::Refused(no) => print::refused(rt, no),
     }
 }
 
-fn ended(outcome: Outcome) {
+fn ended(rt: &impl Print, outcome: Outcome) -> io::Result<()> {
     match outcome {
-        Outcome::Safe(j) => named(names::SAFE, j as u64),
-        Outcome::Reached(states) => named(names::REACHED, states as u64),
+        Outcome::Safe(j) => named(rt, names::SAFE, j as u64),
+        Outcome::Reached(states) => named(rt, names::REACHED, states as u64),
         Outcome::Unfinished => {
-            word(names::UNFINISH);
-            print::say(names::ED);
+            word(rt, names::UNFINISH)?;
+            print::say(rt, names::ED)
         }
-        Outcome::Refused(no) => print::refused(no),
+        Outcome::Refused(no) => print::refused(rt, no),
     }
 }
 
 // How a run ended, its rules, and its hints taken and used.
-fn answered(a: RunAnswer) {
+fn answered(rt: &impl Print, a: RunAnswer) -> io::Result<()> {
     let outcome = a.outcome;
-    ended(outcome);
-    named(names::RULES, a.rules);
-    named(names::TAKEN, a.taken);
-    named(names::USED, a.used);
+    ended(rt, outcome)?;
+    named(rt, names::RULES, a.rules)?;
+    named(rt, names::TAKEN, a.taken)?;
+    named(rt, names::USED, a.used)
 }
 
 // The budget, how many words of hints, and the hints.
-fn run(m: &[u64], run: &mut [u64]) {
+fn run(rt: &impl Print, m: &[u64], run: &mut [u64]) -> io::Result<()> {
     let mut set = [91; 5];
     let mut walk = [999; 257];
-    answered(runs::run(
-        lent::moves(m),
-        lent::model(m),
-        run,
-        lent::part(m, 3, length(m, 2)),
-        at(m, 1),
-        lent::words_mut(&mut set, length(m, lent::LENGTHS + 2)),
-        lent::states_mut(&mut walk, length(m, lent::LENGTHS + 3)),
-    ));
-    print::reasons(&set, &walk);
-}
-
-// A call on the run buffer as it is lent.
-fn called(m: &[u64], c: u64, run: &mut [u64]) {
-    match c {
-        names::FRESH => fresh(script::small(at(m, 1)), run),
-        names::SINGLE => asked(runs::single(
+    answered(
+        rt,
+        runs::run(
             lent::moves(m),
             lent::model(m),
             run,
-            StateSet::read(m, 1),
-        )),
-        names::RUN => self::run(m, run),
-        _ => {}
+            lent::part(m, 3, length(m, 2)),
+            at(m, 1),
+            lent::words_mut(&mut set, length(m, lent::LENGTHS + 2)),
+            lent::states_mut(&mut walk, length(m, lent::LENGTHS + 3)),
+        ),
+    )?;
+    print::reasons(rt, &set, &walk)
+}
+
+// A call on the run buffer as it is lent.
+fn called(rt: &impl Print, m: &[u64], c: u64, run: &mut [u64]) -> io::Result<()> {
+    match c {
+        names::FRESH => fresh(rt, script::small(at(m, 1)), run),
+        names::SINGLE => asked(
+            rt,
+            runs::single(lent::moves(m), lent::model(m), run, StateSet::read(m, 1)),
+        ),
+        names::RUN => self::run(rt, m, run),
+        _ => Ok(()),
     }
 }
 
 // n and k.
-fn counts(run: &[u64]) {
-    print::say(names::SEMICOLON);
-    named(names::N, at(run, 0));
-    named(names::K, at(run, 1));
+fn counts(rt: &impl Print, run: &[u64]) -> io::Result<()> {
+    print::say(rt, names::SEMICOLON)?;
+    named(rt, names::N, at(run, 0))?;
+    named(rt, names::K, at(run, 1))
 }
 
-pub fn step(m: &[u64], run: &mut [u64], old: &[u64]) {
+pub fn step(rt: &impl Print, m: &[u64], run: &mut [u64], old: &[u64]) -> io::Result<()> {
     let c = at(m, 0);
     let n = length(m, lent::LENGTHS + 1);
     match c {
-        names::FRESH | names::SINGLE | names::RUN => called(m, c, lent::words_mut(run, n)),
+        names::FRESH | names::SINGLE | names::RUN => called(rt, m, c, lent::words_mut(run, n))?,
         _ => {
-            return;
+            return Ok(());
         }
     }
     if c == names::SINGLE {
-        counts(run);
+        counts(rt, run)?;
     }
-    print::held(lent::part(run, 0, n), old);
+    print::held(rt, lent::part(run, 0, n), old)
 }
