@@ -1,7 +1,6 @@
 -- `backward_word` meets its contract. The loop adds one bit for each state of the word.
 use borrow.Author.Rules.{rules}
-use Prim.Native.Nat.{◌-◌}
-use mathlib.Core.Logic.{◌⊎◌, inl, inr}
+use mathlib.Core.Logic.{inl, inr}
 use native.Mathlib.Omega.{arith}
 use Rattle.moves.proofs.Rows.{pack-begins, pack-goes, pack-ends}
 use Rattle.moves.proofs.backward_word.Goals as goal

@@ -1,6 +1,5 @@
 -- `count_moves` meets its contract: the sum over the rows so far, at most 256 each.
 use borrow.Author.Rules.{rules}
-use Prim.Native.Nat.{◌-◌}
 use Rattle.moves.proofs.Rows.{count-begins, count-goes, count-ends, count_room}
 use Rattle.moves.proofs.count_moves.Goals as goal
 

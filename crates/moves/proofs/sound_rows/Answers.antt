@@ -1,6 +1,5 @@
 -- `sound_rows` meets its contract: every row passed so far is sound.
 use borrow.Author.Rules.{rules}
-use Prim.Native.Nat.{◌-◌}
 use Rattle.rules.proofs.Loops.{all-begins, all-goes, all-fails, all-ends}
 use Rattle.rules.specs.Table.{sound_rows}
 use Rattle.moves.proofs.sound_rows.Goals as goal

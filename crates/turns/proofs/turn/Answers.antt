@@ -2,7 +2,6 @@
 use native.Mathlib.Omega.{arith}
 use mathlib.Core.Bool.{Bool, true, false, and-false}
 use mathlib.Core.Path.{◌≡◌, sym, ◌∙◌, ap}
-use borrow.Author.Tests.{not-true, not-false}
 use lib.IntN.{ℤ, pos, ◌+ℤ◌, ◌-ℤ◌}
 use mir.Syntax.{w16}
 use mir.Val.{SFits, to_z, of_z}
@@ -32,9 +31,10 @@ returns-then-not-is_angle c =
     let a = to_z-of_z w16 c.args.a c.ranges.a in
     let b = to_z-of_z w16 c.args.b c.ranges.b in
     elim c.then-not-is_angle.branch [
-      then-not-is_angle-via-then-not-is_angle w ↦ rw (told is_angle a c.is_angle.ensures w.if-not-is_angle.true)
+      | then-not-is_angle-via-then-not-is_angle w ↦ rw (told is_angle a c.is_angle.ensures w.if-not-is_angle.true)
       | then-not-is_angle-via-else-not-is_angle+then-not-is_angle-2 w ↦
-        rw (told is_angle b w.is_angle-else-not-is_angle.ensures w.if-not-is_angle-2.true, and-false) ]
+          rw (told is_angle b w.is_angle-else-not-is_angle.ensures w.if-not-is_angle-2.true, and-false)
+    ]
 
 -- from where both are angles
 module _ (c : Else-not-is_angle-2) where

@@ -1,6 +1,5 @@
 -- `write` meets its contract: four stores where they fit, else word by word as far as the list goes.
 use borrow.Author.Rules.{rules}
-use Prim.Native.Nat.{◌-◌}
 use native.Mathlib.Omega.{arith}
 use lib.ListN.{length-set}
 use Rattle.sets.proofs.Words.{sets_four, write_begins, write_off, write_out, write_goes, write_ends}
