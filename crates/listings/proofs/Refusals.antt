@@ -8,7 +8,7 @@ use lib.IntN.{ℤ}
 use lib.ListN.{length, take, length-take}
 use borrow.Author.Tests.{le-leb, lt-leb, leb-true, eqb-true}
 use Rattle.answers.specs.Refusals.{Test, ◌unless◌, first_failing}
-use Rattle.answers.proofs.Order.{none_failing}
+use Rattle.answers.proofs.Order.{none_failing, goes_on_same}
 use Rattle.listings.specs.Listing.{reached_refusal}
 
 -- a number is too large, and it is not
@@ -20,6 +20,14 @@ module _ (n : ℕ) (ts : List Test) (a b : ℕ) where
   pub goes_on_few : (m : ℕ) → a ≤ b → m ≡ first_failing ts → m ≡ first_failing (n unless leb a b ∷ ts)
   unfolding first_failing
   goes_on_few m h q = rw (le-leb a b h) q
+
+-- the last refusal
+pub too_many_states :
+    (walk : List ℕ) (angles : List ℤ) (modes : List ℕ) (states : ℕ) → length walk ≡ 256 → length angles ≡ 256 → length modes ≡ 256 → 256 < states
+    → reached_refusal walk angles modes states ≡ 2
+unfolding reached_refusal
+too_many_states walk angles modes states a b c h =
+    sym (goes_on_same _ _ _ _ _ a (goes_on_same _ _ _ _ _ b (goes_on_same _ _ _ _ _ c (refuses_more _ _ _ _ h))))
 
 -- no refusal: the walk holds the states that count
 pub states-held :

@@ -84,6 +84,7 @@ fn reached_whole(
 }
 
 // The refusal of `reached`: 7, 2, or 0 for none.
+#[tactic(auto, using(crate::proofs::Refusals::too_many_states))]
 fn refusal(walk: &[u16], angles: &[i16], modes: &[u8], states: usize) -> u8
     ensures { result ≡ reached_refusal walk.now angles.now modes.now states }
 {

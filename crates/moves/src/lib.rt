@@ -140,6 +140,7 @@ pub fn backward(moves: &[u64], size: u16, x: StateSet) -> StateSet
 }
 
 // The refusal of f and g: 7, 2, 13, or 0 for none.
+#[tactic(auto, using(crate::proofs::Refused::wrong_length))]
 fn refusal(moves: &[u64], size: u16, x: StateSet) -> u8
     ensures { result ≡ move_refusal size moves.now x.words }
 {

@@ -93,7 +93,7 @@ module _ (N : ℕ) (big : N ≤ 256) where
   sound-full x = simp (member-full N big)
 
 -- from 256 up no number is a member
-pub sound-wide : (N : ℕ) (x : Set) → 256 ≤ N → sound N x ≡ true
+pub sound_wide : (N : ℕ) (x : Set) → 256 ≤ N → sound N x ≡ true
 unfolding sound
-sound-wide N x h = passes (all-says 256 (λ s. not (member x s) || ltb s N))
+sound_wide N x h = passes (all-says 256 (λ s. not (member x s) || ltb s N))
     (λ w. clash (passes (leb-says (suc w.0) N) (λ l. omega (arith, w.1))) (not-implied (member x w.0) (ltb w.0 N) w.2).1)

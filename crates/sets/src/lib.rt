@@ -123,6 +123,7 @@ impl StateSet {
     }
 
     // Whether no member is from N up.
+    #[tactic(auto, using(crate::proofs::Within::sound_wide))]
     pub fn sound(self, size: u16) -> bool
         ensures { result ≡ sound size self.words }
     {

@@ -3,3 +3,4 @@ pub mod Laws
 pub mod Picks
 pub mod AnyTurn
 pub mod Degrees
+pub mod Signs

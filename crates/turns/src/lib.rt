@@ -22,6 +22,7 @@ pub fn is_angle(a: i16) -> bool
 }
 
 // Whether d is less than a half turn, either way.
+#[tactic(auto, using(crate::proofs::Signs::short_above, crate::proofs::Signs::short_below))]
 fn is_short(d: i16) -> bool
     ensures { result ≡ is_short 360 d }
 {
@@ -29,6 +30,7 @@ fn is_short(d: i16) -> bool
 }
 
 // The half turn: 180 from an angle of 0 or more, -180 from a negative one.
+#[tactic(auto, using(crate::proofs::Signs::half_up, crate::proofs::Signs::half_down))]
 fn half_turn(a: i16) -> i16
     ensures { result ≡ half_turn 360 a }
 {

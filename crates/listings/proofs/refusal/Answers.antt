@@ -2,7 +2,7 @@
 use borrow.Author.Rules.{rules}
 use Rattle.answers.proofs.Order.{refuses_other, goes_on_same, accepts}
 use Rattle.listings.specs.Listing.{reached_refusal}
-use Rattle.listings.proofs.Refusals.{refuses_more, goes_on_few}
+use Rattle.listings.proofs.Refusals.{goes_on_few}
 use Rattle.listings.proofs.refusal.Goals as goal
 
 pub returns-then-walk-ne256 : goal.returns-then-walk-ne256
@@ -16,10 +16,6 @@ returns-then-angles-ne256 c = search (goes_on_same, refuses_other, rules)
 pub returns-then-modes-ne256 : goal.returns-then-modes-ne256
 unfolding reached_refusal
 returns-then-modes-ne256 c = search (goes_on_same, refuses_other, rules)
-
-pub returns-then-states-gt256 : goal.returns-then-states-gt256
-unfolding reached_refusal
-returns-then-states-gt256 c = search (goes_on_same, refuses_more, rules)
 
 pub returns : goal.returns
 unfolding reached_refusal

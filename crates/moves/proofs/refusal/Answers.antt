@@ -1,12 +1,8 @@
 -- `refusal` meets its contract: test by test, in the order of the definition.
 use borrow.Author.Rules.{rules}
-use Rattle.answers.proofs.Order.{refuses, goes_on, refuses_other, goes_on_same, accepts}
+use Rattle.answers.proofs.Order.{refuses, goes_on, goes_on_same, accepts}
 use Rattle.moves.specs.Said.{move_refusal}
 use Rattle.moves.proofs.refusal.Goals as goal
-
-pub returns-then-moves-ne1024 : goal.returns-then-moves-ne1024
-unfolding move_refusal
-returns-then-moves-ne1024 c = search (refuses_other, rules)
 
 pub returns-then-not-in_range : goal.returns-then-not-in_range
 unfolding move_refusal

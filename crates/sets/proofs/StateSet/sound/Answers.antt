@@ -1,12 +1,9 @@
 -- `sound` meets its contract: no member from N up is to be within the full set of N states; from 256 up nothing is asked.
-use mathlib.Core.Path.{sym, ◌∙◌}
+use mathlib.Core.Path.{◌∙◌}
 use native.Mathlib.Omega.{arith}
 use Rattle.sets.proofs.Range.{full-set}
-use Rattle.sets.proofs.Within.{sound-full, sound-wide}
+use Rattle.sets.proofs.Within.{sound-full}
 use Rattle.sets.proofs.StateSet.sound.Goals as goal
-
-pub returns-then-size-ge256 : goal.returns-then-size-ge256
-returns-then-size-ge256 c = sym (sound-wide _ _ c.if-size-ge256.true)
 
 pub returns : goal.returns
 returns c = c.within.ensures ∙ rw (full-set _ _ c.full-r.ensures (omega arith)) (sound-full _ (omega arith) _)
