@@ -97,9 +97,9 @@ module _ (second : List ℕ) (all out rest : Set) (v : Leaving second all out re
         }
 
   -- all rows are joined: those of the states outside x
-  module _ (N : ℕ) (big : N ≤ 256) (a x : Set) (Full-is : a ≡ full N) (all-is : all ≡ minus 256 a x) where
+  module _ (N : ℕ) (big : N ≤ 256) (a x : Set) (full-is : a ≡ full N) (all-is : all ≡ minus 256 a x) where
     is : all ≡ minus 256 (full N) x
-    is = all-is ∙ ap (λ (y : Set). minus 256 y x) Full-is
+    is = all-is ∙ ap (λ (y : Set). minus 256 y x) full-is
 
     outside_x : (t : ℕ) → t < 256 → member all t ≡ (ltb t N && not (member x t))
     unfolding minus
@@ -126,7 +126,7 @@ module _ (second : List ℕ) (all out rest : Set) (v : Leaving second all out re
     pub leave_ends : (o : Smallest) → said o ≡ smallest rest → o ≡ Nothing → (r : Set) → r ≡ minus 256 a out → r ≡ backward_by_second N second x
     unfolding backward_by_second minus leading_out
     leave_ends o said-is told r q =
-        q ∙ ap (λ (y : Set). minus 256 y out) Full-is ∙ sym (set-pad N big (λ s. member (full N) s && not (member out s))
+        q ∙ ap (λ (y : Set). minus 256 y out) full-is ∙ sym (set-pad N big (λ s. member (full N) s && not (member out s))
         (λ s h l. ap (λ (c : Bool). c && not (member out s)) (member-full N big s ∙ le-ltb s N h)))
         ∙ set-ext N _ _ (λ s l. ap (λ (c : Bool). member (full N) s && not c)
         (all-joined s (omega arith) ∙ below_n s ∙ sym (member_of N big (λ s. any N (λ t. not (member x t) && leads second t s)) s l)))
