@@ -66,22 +66,21 @@ fn call(
     listed::step(rt, m, angles, modes, bytes)
 }
 
-// Reads until the buffer is full or the input ends; what is not read stays.
-fn read_full(input: &mut impl Read, b: &mut [u8]) -> io::Result<()> {
+// Reads until the buffer is full, the input ends or a read fails; what is not read stays.
+fn read_full(input: &mut impl Read, b: &mut [u8]) {
     let mut done = 0;
     while done < b.len() {
-        let n = input.read(&mut b[done..])?;
+        let n = input.read(&mut b[done..]).unwrap_or(0);
         if n == 0 {
             break;
         }
         done += n;
     }
-    Ok(())
 }
 
 fn main(rt: HostRuntime) -> io::Result<()> {
     let mut text = [0u8; 32768];
-    read_full(&mut rt.stdin(), &mut text)?;
+    read_full(&mut rt.stdin(), &mut text);
     let mut m = [0u64; 1089];
     let mut run = [0u64; 2067];
     let mut angles = [0i16; 257];
