@@ -37,7 +37,7 @@ four_of x e = ext_get_or 0 x _ e go
     go (suc (suc (suc zero))) l = refl
     go (suc (suc (suc (suc i)))) l = absurd (omega arith)
 
--- the words of a set in code; at a need: `proper_words _ (search needs) (λ j. search needs)`
+-- the words of a set in code; at a goal: `proper_words _ (search rules) (λ j. search rules)`
 pub proper_words : (x : Set) → length x ≡ 4 → ((j : ℕ) → Fits w64 (get_or x j 0)) → Proper 256 x
 proper_words x e f = rw (four_of x e) (proper_four _ _ _ _ (f 0).fits (f 1).fits (f 2).fits (f 3).fits)
 
