@@ -2,3 +2,4 @@ pub mod Numbers
 pub mod Unique
 pub mod Order
 pub mod Values
+pub mod Said

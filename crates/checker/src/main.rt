@@ -2,38 +2,16 @@
 // which `checks::check` makes and promises.
 #![tactic(auto)]
 
-ghost use Rattle.std.specs.Prelude.{◌≤◌, length};
-
-use listings::Listed;
 use std::io;
-use std::io::Read;
-
-// Reads until the buffer is full, the input ends or a read fails, and answers how many bytes it put at the buffer's start.
-fn read_full(input: &mut impl Read, b: &mut [u8]) -> usize
-    ensures { result ≤ length b.new }
-{
-    let mut done = 0;
-    while done < b.len() {
-        let n = input.read(&mut b[done..]).unwrap_or(0);
-        if n == 0 {
-            break;
-        }
-        done += n;
-    }
-    done
-}
 
 // No byte past the first 18,185 changes a listing, and no listing has more than 5,424: `check_front` and
-// `check_fits` of `checks`.
+// `check_fits` of `checks`. A read that fails is the end of the input.
 fn main(rt: HostRuntime) -> io::Result<()> {
-    let mut file = [0u8; 18185];
-    let length = read_full(&mut rt.stdin(), &mut file);
-    let mut out = [0u8; 5424];
-    let listed = checks::check(&file[..length], &mut out);
-    if let Listed::Length(n) = listed {
-        if n <= out.len() {
-            rt.write_all(&out[0..n])?;
-        }
+    let mut file = [0; 18185];
+    let (length, _) = inputs::read_full(&mut rt.stdin(), &mut file);
+    let mut out = [0; 5424];
+    if let Ok(n) = checks::check(&file[..length], &mut out) {
+        rt.write_all(out.get(..n).unwrap_or(&[]))?;
     }
     Ok(())
 }

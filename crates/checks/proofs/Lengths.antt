@@ -1,12 +1,11 @@
 -- The listing of a table that was read is at most 5,424 bytes long: each number has few digits, each line few fields, a walk few states.
-use Prim.Native.Nat.{ℕ, zero, suc, ◌+◌, ◌*◌, ◌/◌, ◌^◌, ◌≤◌, ◌<◌}
+use Prim.Native.Nat.{ℕ, zero, suc, ◌+◌, ◌*◌, ◌^◌, ◌≤◌, ◌<◌}
 use Prim.Native.Char.{code}
 use Prim.Native.String.{String, char_at, count as letters}
-use native.Mathlib.Nat.{pow-suc, mul-le-mul}
+use native.Mathlib.Nat.{mul-le-mul}
 use native.Mathlib.Omega.{arith}
 use mathlib.Core.Bool.{Bool, true, false, cond}
 use mathlib.Core.List.{List, [], ◌∷◌, ◌++◌, map, map-append, append-nil}
-use mathlib.Core.Logic.{inl, inr}
 use mathlib.Core.Path.{◌≡◌, refl, sym, ◌∙◌}
 use lib.IntN.{ℤ, pos, negsuc, nat_abs}
 use lib.ListN.{length, get_or, length-append}
@@ -23,12 +22,12 @@ use Rattle.rules.specs.Table.{Table, move_count}
 use Rattle.rules.specs.Walks.{LeadsToBad, arrived, onward}
 use Rattle.moves.specs.Models.{Control}
 use Rattle.sets.proofs.Count.{count-max}
-use Rattle.sets.proofs.Tests.{lt_or_ge}
 use Rattle.sets.specs.Sets.{Set, member, count}
 use Rattle.turns.proofs.Degrees.{in_degrees}
 use Rattle.turns.proofs.Laws.{within}
 use Rattle.turns.specs.Turn.{is_angle, turn_of}
-use Rattle.listings.proofs.Text.{decimal-one, decimal-more}
+use Rattle.std.proofs.lemmas.Fmt.{length-decimal-le_wide}
+use Rattle.listings.proofs.Text.{decimal-wide}
 use Rattle.listings.specs.Listing.{refused_listing, model_line, safe_line, members_below, members_line, safe_listing}
 use Rattle.listings.specs.Listing.{reached_line, shown, state_at, angle_at, turn_at, state_line, reached_listing}
 use Rattle.listings.specs.Text.{appended, text, decimal, signed_decimal, spaced, parted, line}
@@ -37,21 +36,14 @@ use Rattle.checks.proofs.Ends.{few_states, searched-ends}
 
 -- ---- texts
 -- a number below 10^(k+1) has at most k+1 digits
-decimal-short : (k n : ℕ) → n < 10 ^ suc k → length (decimal n) ≤ suc k
-decimal-short zero n h = rw (decimal-one n (omega arith)) (omega arith)
-decimal-short (suc k) n h = elim (lt_or_ge n 10) [
-  | inl l ↦ rw (decimal-one n l) (omega arith)
-  | inr l ↦
-      let p = pow-suc 10 (suc k) in
-      let q = decimal-short k (n / 10) (omega arith) in
-      rw (decimal-more n l, length-append) (omega arith)
-]
+decimal-short : (k n : ℕ) → n < 10 ^ suc k → n < 10 ^ 64 → length (decimal n) ≤ suc k
+decimal-short k n h small = rw (← decimal-wide n small) (length-decimal-le_wide (suc k) n (omega arith) h small)
 
 -- an angle or a turn has at most three digits and a sign
 signed-short : (z : ℤ) → nat_abs z ≤ 180 → length (signed_decimal z) ≤ 4
 unfolding signed_decimal
-signed-short (pos n) h = omega (arith, decimal-short 2 n (omega arith))
-signed-short (negsuc n) h = omega (arith, decimal-short 2 (suc n) (omega arith))
+signed-short (pos n) h = omega (arith, decimal-short 2 n (omega arith) (omega arith))
+signed-short (negsuc n) h = omega (arith, decimal-short 2 (suc n) (omega arith) (omega arith))
 
 angle-size : (z : ℤ) → is_angle z ≡ true → nat_abs z ≤ 180
 angle-size (pos n) e = omega (arith, within (pos n) e)
@@ -103,13 +95,13 @@ refused_length number offset h k =
       line-length (text "refused") (decimal number ∷ text "at" ∷ decimal offset ∷ []),
       text-length "refused",
       text-length "at",
-      decimal-short 1 number (omega arith),
-      decimal-short 19 offset k,
+      decimal-short 1 number (omega arith) (omega arith),
+      decimal-short 19 offset k (omega (arith, k)),
     )
 
 -- a count of members has at most three digits
 count-short : (x : Set) → length (decimal (count 256 x)) ≤ 3
-count-short x = decimal-short 2 (count 256 x) (omega (arith, count-max 256 x))
+count-short x = decimal-short 2 (count 256 x) (omega (arith, count-max 256 x)) (omega (arith, count-max 256 x))
 
 -- line 1
 model_length : (t : Table) → t.size ≤ 256 → move_count t.rows ≤ 4096 → length (model_line t) ≤ 23
@@ -120,10 +112,10 @@ model_length t h k =
       arith,
       line-length (text "model") (decimal t.size ∷ counts),
       text-length "model",
-      decimal-short 2 t.size (omega arith),
+      decimal-short 2 t.size (omega arith) (omega arith),
       count-short t.starts,
       count-short t.safe,
-      decimal-short 3 (move_count t.rows) (omega arith),
+      decimal-short 3 (move_count t.rows) (omega arith) (omega arith),
     )
 
 -- line 2 of a safe run
@@ -136,8 +128,8 @@ safe_length j rules x h k =
       text-length "safe",
       text-length "rules",
       text-length "members",
-      decimal-short 2 j (omega arith),
-      decimal-short 5 rules (omega arith),
+      decimal-short 2 j (omega arith) (omega arith),
+      decimal-short 5 rules (omega arith) (omega arith),
       count-short x,
     )
 
@@ -150,8 +142,8 @@ reached_length states rules h k =
       line-length (text "reached") (decimal states ∷ text "rules" ∷ decimal rules ∷ []),
       text-length "reached",
       text-length "rules",
-      decimal-short 2 states (omega arith),
-      decimal-short 5 rules (omega arith),
+      decimal-short 2 states (omega arith) (omega arith),
+      decimal-short 5 rules (omega arith) (omega arith),
     )
 
 -- each member has at most three digits and a space
@@ -165,7 +157,7 @@ members_total : (n : ℕ) (x : Set) → n ≤ 1000 → total (map decimal (membe
 unfolding members_below appended
 members_total zero x h = omega arith
 members_total (suc n) x h =
-    omega (arith, members_total n x (omega arith), one_more (members_below n x) n (member x n) (decimal-short 2 n (omega arith)))
+    omega (arith, members_total n x (omega arith), one_more (members_below n x) n (member x n) (decimal-short 2 n (omega arith) (omega arith)))
 
 -- the last line of a safe run
 members_length : (x : Set) → length (members_line x) ≤ 1025
@@ -196,10 +188,10 @@ state-length walk angles modes i h s a m =
     omega (
       arith,
       line-length (decimal (i + 1)) (decimal (state_at walk i) ∷ labels),
-      decimal-short 2 (i + 1) (omega arith),
-      decimal-short 2 (state_at walk i) (omega arith),
+      decimal-short 2 (i + 1) (omega arith) (omega arith),
+      decimal-short 2 (state_at walk i) (omega arith) (omega arith),
       signed-short (angle_at walk angles i) (angle-size (angle_at walk angles i) a),
-      decimal-short 1 (get_or modes (state_at walk i) 0) (omega arith),
+      decimal-short 1 (get_or modes (state_at walk i) 0) (omega arith) (omega arith),
       signed-short (turn_at walk angles i) (turn_size walk angles i),
     )
 

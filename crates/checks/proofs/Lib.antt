@@ -1,3 +1,4 @@
+pub mod Squares
 pub mod Ends
 pub mod Verdicts
 pub mod Readings

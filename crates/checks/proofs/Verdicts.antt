@@ -7,8 +7,11 @@ use mathlib.Core.Path.{◌≡◌, refl, sym, ap, ◌∙◌}
 use borrow.Author.Tests.{eq-eqb, le-leb}
 use lib.ListN.{length}
 use lib.Seq.{sets, length-sets}
-use Rattle.answers.specs.Answer.{given, unless_refused}
+use Rattle.std.specs.Prelude.{Result, Ok, Err}
+use Rattle.answers.specs.Answer.{Answer, given, unless_refused}
 use Rattle.answers.specs.Refusals.{first_failing}
+use Rattle.answers.specs.Said.{number_of}
+use Rattle.answers.specs.declared.Refusal.{Refusal}
 use Rattle.rules.proofs.Buffer.{encode-length}
 use Rattle.rules.proofs.Demands.{fresh-inv}
 use Rattle.rules.proofs.Held.{held_back, kept-accepts}
@@ -23,9 +26,10 @@ use Rattle.rules.specs.ShownWalk.{shown_walk}
 use Rattle.rules.specs.Table.{Table}
 use Rattle.runs.specs.Hints.{hints_from, hints_at}
 use Rattle.runs.specs.Promises.{fresh_refusal, FreshPromise, run_refusal, lengths_ok, run_answer, ran, set_after, walk_after, Answered, RunPromise}
-use Rattle.runs.specs.Said.{safe_with, reached_with, said}
+use Rattle.runs.specs.Said as spoken
+use Rattle.runs.specs.Said.{safe_with, reached_with, as_outcome, said, rules_of}
 use Rattle.runs.specs.declared.Outcome.{Outcome}
-use Rattle.runs.specs.declared.Outcome.TheVariants.{Safe, Reached, Unfinished, Refused}
+use Rattle.runs.specs.declared.Outcome.TheVariants.{Safe, Reached, Unfinished}
 use Rattle.runs.specs.declared.RunAnswer.{RunAnswer}
 use Rattle.sets.proofs.Range.{range_says}
 use Rattle.sets.proofs.Tests.{passed}
@@ -34,44 +38,42 @@ use Rattle.sets.specs.Sets.{Set, quad}
 use Rattle.moves.specs.Models.{Control}
 use Rattle.listings.specs.Listing.{refused_listing, safe_listing, reached_listing, reached_refusal, reached_wanted}
 use Rattle.listings.specs.Said.{Lists}
-use Rattle.listings.specs.declared.Listed.{Listed}
 use Rattle.checks.specs.Check.{searched, verdict_listing, table_listing}
-use Rattle.checks.specs.Inner.{Sought, answer_wanted}
+use Rattle.checks.specs.Inner.{Sought, ended_wanted, answer_wanted}
 use Rattle.checks.proofs.Ends.{searched-ends, few_states}
 
--- ---- what an answer says names it
-is_safe : (o : Outcome) (j : ℕ) → said o ≡ given (safe_with j) → o ≡ Safe j
-is_safe (Safe i) j e = cc
-is_safe (Reached m) j e = cc
-is_safe Unfinished j e = cc
-is_safe (Refused n) j e = cc
+-- ---- what an outcome says names it
+says_safe : (o : Outcome) (j : ℕ) → ◌≡◌ {A = Answer spoken.Outcome} (given (as_outcome o)) (given (safe_with j)) → o ≡ Safe j
+says_safe (Safe i) j e = cc
+says_safe (Reached m) j e = cc
+says_safe Unfinished j e = cc
 
-is_reached : (o : Outcome) (m : ℕ) → said o ≡ given (reached_with m) → o ≡ Reached m
-is_reached (Safe i) m e = cc
-is_reached (Reached k) m e = cc
-is_reached Unfinished m e = cc
-is_reached (Refused n) m e = cc
+says_reached : (o : Outcome) (m : ℕ) → ◌≡◌ {A = Answer spoken.Outcome} (given (as_outcome o)) (given (reached_with m)) → o ≡ Reached m
+says_reached (Safe i) m e = cc
+says_reached (Reached k) m e = cc
+says_reached Unfinished m e = cc
 
 -- ---- what each answer of a run lists
-module _ (c : Control) (rules : ℕ) (set : Set) (walk out out' : List ℕ) (o : Outcome) (l : Listed) where
-  pub safe_lists : (j : ℕ) → o ≡ Safe j → Lists (given (safe_listing c.table j rules set)) out l out'
-      → Lists (answer_wanted c o rules set walk) out l out'
-  unfolding answer_wanted
-  safe_lists j e p = rw e p
+module _ (c : Control) (set : Set) (walk out out' : List ℕ) (l : Result ℕ Refusal) (r : Result RunAnswer Refusal) where
+  module _ (a : RunAnswer) (is : r ≡ Ok a) where
+    pub safe_lists : (j : ℕ) → a.outcome ≡ Safe j → Lists (given (safe_listing c.table j a.rules set)) out l out'
+        → Lists (answer_wanted c r set walk) out l out'
+    unfolding answer_wanted ended_wanted
+    safe_lists j e p = rw (is, e) p
 
-  pub reached_lists : (m : ℕ) → o ≡ Reached m → Lists (reached_wanted c rules walk m) out l out'
-      → Lists (answer_wanted c o rules set walk) out l out'
-  unfolding answer_wanted
-  reached_lists m e p = rw e p
+    pub reached_lists : (m : ℕ) → a.outcome ≡ Reached m → Lists (reached_wanted c a.rules walk m) out l out'
+        → Lists (answer_wanted c r set walk) out l out'
+    unfolding answer_wanted ended_wanted
+    reached_lists m e p = rw (is, e) p
 
-  pub unfinished_lists : o ≡ Unfinished → Lists (given (refused_listing 0 0)) out l out' → Lists (answer_wanted c o rules set walk) out l out'
-  unfolding answer_wanted
-  unfinished_lists e p = rw e p
+    pub unfinished_lists : a.outcome ≡ Unfinished → Lists (given (refused_listing 0 0)) out l out' → Lists (answer_wanted c r set walk) out l out'
+    unfolding answer_wanted ended_wanted
+    unfinished_lists e p = rw (is, e) p
 
-  pub refused_lists : (n : ℕ) → o ≡ Refused n → Lists (given (refused_listing n 0)) out l out'
-      → Lists (answer_wanted c o rules set walk) out l out'
+  pub refused_lists : (f : Refusal) (n : ℕ) → r ≡ Err f → n ≡ number_of f → Lists (given (refused_listing n 0)) out l out'
+      → Lists (answer_wanted c r set walk) out l out'
   unfolding answer_wanted
-  refused_lists n e p = rw e p
+  refused_lists f n e q p = rw e (rw q at p)
 
 -- ---- the run of the definition
 -- four words stand at place 0 of themselves
@@ -128,28 +130,31 @@ module _ (c : Control) (g : Sought c) where
 
   module _ (set set' walk walk' : List ℕ) (four : length set' ≡ 4) (long : length walk ≡ 256) where
     -- what is wanted for an answer of the run is its verdict's listing
-    wanted_by : (a : RunAnswer) (x : Standing) → o.standing ≡ x → Ended x → said a.outcome ≡ run_answer 0 x o.state
-        → a.rules ≡ cond (ran 0 x) o.rules 0 → set' ≡ set_after 0 x o.state set → walk' ≡ walk_after t 0 x o.state walk
-        → answer_wanted c a.outcome a.rules (quad set' 0) walk' ≡ given (verdict_listing c o x)
-    unfolding answer_wanted verdict_listing run_answer ran set_after walk_after
-    wanted_by a x e (ended_safe j) says k s w = rw (is_safe a.outcome j says, k, quad-all set' four, s)
-    wanted_by a x e ended_reached says k s w = rw (is_reached a.outcome _ says, k) (shown-walk walk walk' _ long e w refl)
+    wanted_by : (r : Result RunAnswer Refusal) (x : Standing) → o.standing ≡ x → Ended x → said r ≡ run_answer 0 x o.state
+        → rules_of r ≡ cond (ran 0 x) o.rules 0 → set' ≡ set_after 0 x o.state set → walk' ≡ walk_after t 0 x o.state walk
+        → answer_wanted c r (quad set' 0) walk' ≡ given (verdict_listing c o x)
+    unfolding answer_wanted ended_wanted verdict_listing run_answer ran set_after walk_after
+    wanted_by (Ok a) x e (ended_safe j) says k s w = rw (says_safe a.outcome j says, k, quad-all set' four, s)
+    wanted_by (Ok a) x e ended_reached says k s w = rw (says_reached a.outcome _ says, k) (shown-walk walk walk' _ long e w refl)
+    wanted_by (Err f) x e (ended_safe j) says k s w = cc
+    wanted_by (Err f) x e ended_reached says k s w = cc
 
-    wanted_is : {b b' : List ℕ} (a : RunAnswer) → Answered t 0 o b b' set set' walk walk' a
-        → answer_wanted c a.outcome a.rules (quad set' 0) walk' ≡ given (table_listing c)
+    wanted_is : {b b' : List ℕ} (r : Result RunAnswer Refusal) → Answered t 0 o b b' set set' walk walk' r
+        → answer_wanted c r (quad set' 0) walk' ≡ given (table_listing c)
     unfolding table_listing
-    wanted_is a p = wanted_by a o.standing refl (searched-ends t big) p.outcome p.rules p.set_is p.walk_is
+    wanted_is r p = wanted_by r o.standing refl (searched-ends t big) p.outcome p.rules p.set_is p.walk_is
 
 -- so a table's listing is that of what `run` answers from a fresh run buffer: b is the buffer, b₁ fresh, b₂ after the run
 pub searched-lists :
-    {c : Control} {b b₁ b₂ set set' walk walk' out out' : List ℕ} {x : Set} {number budget : ℕ} {a : RunAnswer} {l : Listed} → Sought c
+    {c : Control} {b b₁ b₂ set set' walk walk' out out' : List ℕ} {x : Set} {number budget : ℕ} {r : Result RunAnswer Refusal}
+    {l : Result ℕ Refusal} → Sought c
     → FreshPromise c.table.size b b₁ number → budget ≡ bound c.table.size
-    → RunPromise c.table [] budget b₁ b₂ set set' walk walk' a → x ≡ quad set' 0
-    → Lists (answer_wanted c a.outcome a.rules x walk') out l out'
+    → RunPromise c.table [] budget b₁ b₂ set set' walk walk' r → x ≡ quad set' 0
+    → Lists (answer_wanted c r x walk') out l out'
     → length b ≡ 2066 → length set ≡ 4 → length set' ≡ 4 → length walk ≡ 256 → Lists (given (table_listing c)) out l out'
-searched-lists {c} {b} {b₁} {b₂} {set} {set'} {walk} {walk'} {x = x} {budget = budget} {a = a} g f e p read w buffer four four' long =
+searched-lists {c} {b} {b₁} {b₂} {set} {set'} {walk} {walk'} {x = x} {budget = budget} {r = r} g f e p read w buffer four four' long =
     let fresh-run : b₁ ≡ encode (fresh c.table) = fresh-held c g f buffer in
     let taken : run_refusal c.table [] b₁ set walk ≡ 0 = rw fresh-run (not_refused c g set walk four long) in
     let same : run c.table budget (hints_at [] 0) (decode b₁) ≡ searched c.table = rw fresh-run (same_run c g e) in
-    let answered : Answered c.table 0 (searched c.table) b₁ b₂ set set' walk walk' a = rw (taken, same) at p in
-    rw (read, wanted_is c g set set' walk walk' four' long a answered) at w
+    let answered : Answered c.table 0 (searched c.table) b₁ b₂ set set' walk walk' r = rw (taken, same) at p in
+    rw (read, wanted_is c g set set' walk walk' four' long r answered) at w

@@ -5,81 +5,87 @@
 ghost use Rattle.std.specs.Prelude.{◌≡◌};
 ghost use Rattle.answers.specs.Answer.{given};
 ghost use Rattle.rules.specs.Demands.{bound};
-ghost use Rattle.moves.specs.Models.{on, control};
+ghost use Rattle.moves.specs.Models.{as_control};
 ghost use Rattle.listings.specs.Said.{Lists};
 ghost use Rattle.checks.specs.Check.{table_listing, check_listing};
 ghost use Rattle.checks.specs.Inner.{Sought, answer_wanted};
 
-use listings::Listed;
-use moves::Model;
+use answers::Refusal;
+use moves::{Control, Table};
 use runs::{Outcome, RunAnswer};
 use sets::StateSet;
 
 // The budget under which every run ends: 2·N·N + 2·N.
+#[tactic(auto, using(crate::proofs::Squares::square))]
 fn budget(size: u16) -> u64
     ensures { result ≡ bound size }
 {
-    let wide = size as u64;
+    let wide = u64::from(size);
     2 * (wide * wide) + 2 * wide
 }
 
 // The listing of a run's answer.
 fn list(
-    moves: &[u64],
-    model: Model,
-    angles: &[i16],
-    modes: &[u8],
-    a: RunAnswer,
+    control: &Control,
+    answer: Result<RunAnswer, Refusal>,
     set: StateSet,
     walk: &[u16],
     out: &mut [u8],
-) -> Listed
+) -> Result<usize, Refusal>
     ensures { Lists
-        (answer_wanted (control (on model moves.now) angles.now modes.now)
-        a.outcome a.rules set.words walk.now)
+        (answer_wanted (as_control control.now) answer set.words walk.now)
         out.old result out.new }
 {
-    let rules = a.rules;
-    let outcome = a.outcome;
-    match outcome {
-        Outcome::Safe(j) => listings::safe(moves, model, j, rules, set, out),
-        Outcome::Reached(states) => {
-            listings::reached(moves, model, angles, modes, rules, walk, states, out)
-        }
-        // Neither comes: the table read is sound, the run buffer fresh, and the budget enough.
-        Outcome::Unfinished => listings::refused(answers::NO_REFUSAL, 0, out),
-        Outcome::Refused(number) => listings::refused(number, 0, out),
+    match answer {
+        Ok(run) => match run.outcome {
+            Outcome::Safe(j) => listings::safe(&control.table, j, run.rules, set, out),
+            Outcome::Reached(states) => listings::reached(control, run.rules, walk, states, out),
+            // Neither this nor a refusal comes: the table read is sound, the run buffer fresh, and
+            // the budget enough.
+            Outcome::Unfinished => listings::refused(0, 0, out),
+        },
+        Err(refusal) => listings::refused(u8::from(refusal), 0, out),
     }
 }
 
 // The listing of a table that was read.
-fn search(moves: &[u64], model: Model, angles: &[i16], modes: &[u8], out: &mut [u8]) -> Listed
-    requires { Sought (control (on model moves.now) angles.now modes.now) }
+fn search(control: &Control, out: &mut [u8]) -> Result<usize, Refusal>
+    requires { Sought (as_control control.now) }
     ensures { Lists
-        (given (table_listing (control (on model moves.now) angles.now modes.now)))
+        (given (table_listing (as_control control.now)))
         out.old result out.new }
 {
     let mut held = [0; 2066];
     let mut set = [0; 4];
     let mut walk = [0; 256];
-    let size = model.size;
-    runs::fresh(size, &mut held);
+    let size = control.table.model.size;
+    // It is not refused: the buffer is as long as it has to be, and N was read.
+    let _ = runs::fresh(size, &mut held);
     let most = budget(size);
-    let a = runs::run(moves, model, &mut held, &[], most, &mut set, &mut walk);
-    let reason = StateSet::read(&set, 0);
-    list(moves, model, angles, modes, a, reason, &walk, out)
+    let answer = runs::run(&control.table, &mut held, &[], most, &mut set, &mut walk);
+    list(control, answer, StateSet::read(&set, 0), &walk, out)
 }
 
 // The listing of a file: its length, or refused with 12 for a shorter output.
-pub fn check(file: &[u8], out: &mut [u8]) -> Listed
+pub fn check(file: &[u8], out: &mut [u8]) -> Result<usize, Refusal>
     ensures { Lists (given (check_listing file.now)) out.old result out.new }
 {
     let mut moves = [0; 1024];
     let mut angles = [0; 256];
     let mut modes = [0; 256];
-    let r = tables::read(file, &mut moves, &mut angles, &mut modes);
-    if r.refusal != answers::NO_REFUSAL {
-        return listings::refused(r.refusal, r.offset, out);
+    match tables::read(file, &mut moves, &mut angles, &mut modes) {
+        Ok(reading) => {
+            let table = Table {
+                model: reading.model,
+                moves: &moves,
+            };
+            let control = Control {
+                table,
+                angles: &angles,
+                modes: &modes,
+            };
+            search(&control, out)
+        }
+        Err(fault) => listings::refused(u8::from(fault.refusal), fault.offset, out),
     }
-    search(&moves, r.model, &angles, &modes, out)
 }

@@ -4,7 +4,7 @@ use native.Mathlib.Omega.{arith}
 use mathlib.Core.Bool.{Bool, true, false, not, ◌&&◌, ◌||◌, and-not_self, and-true as and-true-is}
 use mathlib.Core.List.{List, [], ◌∷◌}
 use mathlib.Core.Logic.{inl, inr, ◌≢◌}
-use mathlib.Core.Option.{Option, some, none}
+use Rattle.std.specs.Prelude.{Option, Some, None}
 use mathlib.Core.Path.{◌≡◌, refl, sym, ap, ap₂, ◌∙◌}
 use borrow.Author.Tests.{eq-eqb, ne_eqb, lt-ltb, le-ltb, ltb-true}
 use lib.Dec.{eqb, ltb}
@@ -12,11 +12,8 @@ use Rattle.sets.proofs.Count.{count-lt}
 use Rattle.sets.proofs.Members.{member_of, member-empty, member-full, set-ext, set-pad, smallest-is}
 use Rattle.sets.proofs.Search.{Least, here, nowhere, any-says, any-ext}
 use Rattle.sets.proofs.Tests.{Says, pass, fail, passes, fails, clash, and-true, same_or}
-use Rattle.sets.specs.Said.{said}
 use Rattle.sets.specs.Search.{any}
 use Rattle.sets.specs.Sets.{Set, member, empty, full, join, minus, without, count, smallest}
-use Rattle.sets.specs.declared.Smallest.{Smallest}
-use Rattle.sets.specs.declared.Smallest.TheVariants.{Member, Nothing}
 use Rattle.rules.specs.Second.{leading_out, backward_by_second}
 use Rattle.rules.specs.Table.{row, leads}
 
@@ -33,17 +30,17 @@ any-more n p q i l fresh other = go (any-says n p) (q i) refl
     ])
 
 -- the smallest member, in words of its answer
-smallest-in : (x : Set) (t : ℕ) → some t ≡ smallest x → (t < 256) × (member x t ≡ true)
+smallest-in : (x : Set) (t : ℕ) → Some t ≡ smallest x → (t < 256) × (member x t ≡ true)
 smallest-in x t e = go (smallest x) (smallest-is x) e
   where
-    go : (o : Option ℕ) → Least 256 (member x) o → some t ≡ o → (t < 256) × (member x t ≡ true)
+    go : (o : Option ℕ) → Least 256 (member x) o → Some t ≡ o → (t < 256) × (member x t ≡ true)
     go _ (here i l m before) e = let q : t ≡ i = cc in rw q (l, m)
     go _ (nowhere none_is) e = let z : ◌≡◌ {A = ℕ} 0 1 = cc in absurd (omega arith)
 
-no_smallest : (x : Set) → none ≡ smallest x → (t : ℕ) → t < 256 → member x t ≡ false
+no_smallest : (x : Set) → None ≡ smallest x → (t : ℕ) → t < 256 → member x t ≡ false
 no_smallest x e = go (smallest x) (smallest-is x) e
   where
-    go : (o : Option ℕ) → Least 256 (member x) o → none ≡ o → (t : ℕ) → t < 256 → member x t ≡ false
+    go : (o : Option ℕ) → Least 256 (member x) o → None ≡ o → (t : ℕ) → t < 256 → member x t ≡ false
     go _ (here i l m before) e = let z : ◌≡◌ {A = ℕ} 0 1 = cc in absurd (omega arith)
     go _ (nowhere none_is) e = none_is
 
@@ -60,11 +57,8 @@ leave_begins second all = record {
 }
 
 module _ (second : List ℕ) (all out rest : Set) (v : Leaving second all out rest) where
-  -- r is what `smallest` answers
-  module _ (t : ℕ) (rest' : Set) (r : Smallest) (said-is : said r ≡ smallest rest) (is : r ≡ Member t) (f : rest' ≡ without 256 rest t) where
-    e : some t ≡ smallest rest
-    e = ap said (sym is) ∙ said-is
-
+  -- t is what `smallest` answers
+  module _ (t : ℕ) (rest' : Set) (e : Some t ≡ smallest rest) (f : rest' ≡ without 256 rest t) where
     left : (u : ℕ) → u < 256 → member rest' u ≡ (member rest u && not (eqb u t))
     unfolding without
     left u l = ap (λ (y : Set). member y u) f ∙ member_of 256 (omega arith) (λ u. member rest u && not (eqb u t)) u l
@@ -123,9 +117,9 @@ module _ (second : List ℕ) (all out rest : Set) (v : Leaving second all out re
             let low = ltb-true w.0 N (and-true _ _ (sym (outside_x w.0 w.1) ∙ both.0)).0 in
             clash (sym (at w.0 low) ∙ w.2) (h w.0 low))
 
-    pub leave_ends : (o : Smallest) → said o ≡ smallest rest → o ≡ Nothing → (r : Set) → r ≡ minus 256 a out → r ≡ backward_by_second N second x
+    pub leave_ends : (o : Option ℕ) → o ≡ smallest rest → o ≡ None → (r : Set) → r ≡ minus 256 a out → r ≡ backward_by_second N second x
     unfolding backward_by_second minus leading_out
-    leave_ends o said-is told r q =
+    leave_ends o e none_is r q =
         q ∙ ap (λ (y : Set). minus 256 y out) full-is ∙ sym (set-pad N big (λ s. member (full N) s && not (member out s))
         (λ s h l. ap (λ (c : Bool). c && not (member out s)) (member-full N big s ∙ le-ltb s N h)))
         ∙ set-ext N _ _ (λ s l. ap (λ (c : Bool). member (full N) s && not c)
@@ -133,5 +127,5 @@ module _ (second : List ℕ) (all out rest : Set) (v : Leaving second all out re
       where
         all-joined : (s : ℕ) → s < 256 → member out s ≡ any 256 (λ t. member all t && leads second t s)
         all-joined s l = v.joined s l ∙ any-ext 256 _ _ (λ t m.
-            ap (λ (c : Bool). (member all t && not c) && leads second t s) (no_smallest rest (ap said (sym told) ∙ said-is) t m)
+            ap (λ (c : Bool). (member all t && not c) && leads second t s) (no_smallest rest (sym none_is ∙ e) t m)
             ∙ ap (λ (c : Bool). c && leads second t s) (and-true-is (member all t)))

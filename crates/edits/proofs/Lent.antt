@@ -1,9 +1,9 @@
 -- The refusals after the first four tests; what no refusal says of both tables.
 use Prim.Native.Nat.{ℕ, ◌≤◌}
 use native.Mathlib.Omega.{arith}
-use mathlib.Core.Bool.{Bool, true, false, not}
+use mathlib.Core.Bool.{Bool, true, false, not, beq}
 use mathlib.Core.List.{List, [], ◌∷◌, ◌++◌}
-use mathlib.Core.Path.{◌≡◌, refl, sym, ap, ◌∙◌}
+use mathlib.Core.Path.{◌≡◌, refl}
 use borrow.Author.Tests.{eqb-true}
 use lib.ListN.{length}
 use Rattle.answers.proofs.Order.{none_failing, numbers_in, passed-before}
@@ -16,10 +16,10 @@ use Rattle.rules.specs.Table.{row, leads, sound_rows}
 use Rattle.edits.specs.Promises.{lent_tests}
 
 -- the four passed, and m is what the rest answers
-pub past-lent : (N : ℕ) (rows second : List ℕ) (us : List Test) (no m : ℕ) → no ≡ first_failing (lent_tests N rows second) → no ≡ 0 → m ≡ first_failing us
+pub past-lent : (N : ℕ) (rows second : List ℕ) (us : List Test) (m : ℕ) → 0 ≡ first_failing (lent_tests N rows second) → m ≡ first_failing us
     → m ≡ first_failing (lent_tests N rows second ++ us)
 unfolding lent_tests numbers_in one_of
-past-lent N rows second us k m e z q = passed-before (7 ∷ 2 ∷ 13 ∷ []) (lent_tests N rows second) us k m refl refl e z q
+past-lent N rows second us m e q = passed-before (7 ∷ 2 ∷ 13 ∷ []) (lent_tests N rows second) us 0 m refl refl e refl q
 
 -- what they say where they passed
 pub record Fine (N : ℕ) (rows second : List ℕ) : Type 0 where
@@ -40,38 +40,29 @@ fine N rows second us e =
     let (sound, after-13) = none_failing _ _ _ (λ q. omega arith) after-2 in
     (record { rows_long = eqb-true _ _ first; second_long = eqb-true _ _ other; range = range; big = (passed (range_says N) range).1; sound = sound }, after-13)
 
-fine_lent : (N : ℕ) (rows second : List ℕ) (k : ℕ) → k ≡ first_failing (lent_tests N rows second) → k ≡ 0 → Fine N rows second
+fine_lent : (N : ℕ) (rows second : List ℕ) → first_failing (lent_tests N rows second) ≡ 0 → Fine N rows second
 unfolding lent_tests
-fine_lent N rows second k e z = (fine N rows second [] (sym e ∙ z)).0
+fine_lent N rows second e = (fine N rows second [] e).0
 
 -- .. fact by fact
-pub lent-big : (N : ℕ) (rows second : List ℕ) (k : ℕ) → k ≡ first_failing (lent_tests N rows second) → k ≡ 0 → N ≤ 256
-lent-big N rows second k e z = (fine_lent N rows second k e z).big
+pub lent-big : (N : ℕ) (rows second : List ℕ) → first_failing (lent_tests N rows second) ≡ 0 → N ≤ 256
+lent-big N rows second e = (fine_lent N rows second e).big
 
-pub lent-sound : (N : ℕ) (rows second : List ℕ) (k : ℕ) → k ≡ first_failing (lent_tests N rows second) → k ≡ 0 → sound_rows N rows ≡ true
-lent-sound N rows second k e z = (fine_lent N rows second k e z).sound
+pub lent-sound : (N : ℕ) (rows second : List ℕ) → first_failing (lent_tests N rows second) ≡ 0 → sound_rows N rows ≡ true
+lent-sound N rows second e = (fine_lent N rows second e).sound
 
-pub lent-long : (N : ℕ) (rows second : List ℕ) (k : ℕ) → k ≡ first_failing (lent_tests N rows second) → k ≡ 0 → length second ≡ 1024
-lent-long N rows second k e z = (fine_lent N rows second k e z).second_long
+pub lent-long : (N : ℕ) (rows second : List ℕ) → first_failing (lent_tests N rows second) ≡ 0 → length second ≡ 1024
+lent-long N rows second e = (fine_lent N rows second e).second_long
 
 -- ---- 15: is is what the code's look at row s answers
-alike-false : (a : Bool) → alike a false ≡ not a
+not-beq : (a there : Bool) → not (beq a there) ≡ alike a (not there)
 unfolding alike
-alike-false true = refl
-alike-false false = refl
+not-beq true true = refl
+not-beq true false = refl
+not-beq false true = refl
+not-beq false false = refl
 
-alike-true : (a : Bool) → alike a true ≡ a
-unfolding alike
-alike-true true = refl
-alike-true false = refl
-
-module _ (rows : List ℕ) (s t : ℕ) (there is : Bool) (x : Set) (e : x ≡ row rows s) (f : is ≡ member x t) where
-  is_leads : is ≡ leads rows s t
-  unfolding leads
-  is_leads = f ∙ ap (λ (y : Set). member y t) e
-
-  pub differs_add : there ≡ true → not is ≡ alike (leads rows s t) (not there)
-  differs_add q = ap not is_leads ∙ sym (ap (λ (b : Bool). alike (leads rows s t) (not b)) q ∙ alike-false (leads rows s t))
-
-  pub differs_remove : there ≡ false → is ≡ alike (leads rows s t) (not there)
-  differs_remove q = is_leads ∙ sym (ap (λ (b : Bool). alike (leads rows s t) (not b)) q ∙ alike-true (leads rows s t))
+pub differs_is : (rows : List ℕ) (s t : ℕ) (there is : Bool) (x : Set) → x ≡ row rows s → is ≡ member x t
+    → not (beq is there) ≡ alike (leads rows s t) (not there)
+unfolding leads
+differs_is rows s t there is x e f = rw (f, e) (not-beq (member (row rows s) t) there)

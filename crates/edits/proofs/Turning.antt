@@ -1,4 +1,4 @@
--- The second table as the loops build it, bit by bit: one word of a row, one row, the rows so far; agreement, row by row; and the copy of a table.
+-- The second table as the loops build it, bit by bit: one word of a row, one row, the rows so far; agreement.
 use Prim.Native.Nat.{ℕ, ◌+◌, ◌-◌, ◌*◌, ◌/◌, ◌%◌, ◌^◌, ◌≤◌, ◌<◌}
 use native.Mathlib.Omega.{arith}
 use mathlib.Core.Bool.{Bool, true, false, not, ◌&&◌, ◌||◌, or-false, and-false, and-not_self, and-true as and-true-is}
@@ -11,19 +11,16 @@ use lib.Count.{count_trailing_zeros}
 use lib.Dec.{eqb, ltb}
 use lib.ListN.{length, get_or, set, length-set, replicate, length-replicate, get_or-replicate, get_or-eq_default}
 use lib.Seq.{get_or-set_same, get_or-set_other}
+use Rattle.std.specs.Cmp.Lexicographic.{pointwise, bytes_decides}
 use Rattle.sets.proofs.Bits.{bit-and, bit-or, bit-power, bit-zero, pack-of, trailing_first}
-use Rattle.sets.proofs.Lists.{Filled, fill_none, fill_more, fill_all, is_tabulate}
-use Rattle.sets.proofs.Tests.{Says, pass, fail, and-true, and_intro, clash, never, not-true, not-false, same_or, lt_or_ge}
+use Rattle.sets.proofs.Tests.{and-true, clash, never, same_or, lt_or_ge}
 use Rattle.sets.proofs.Words.{but_not, but_not-bit, one_shl, shift_lt, same_state}
-use Rattle.sets.proofs.Search.{all-says}
-use Rattle.sets.proofs.Within.{is_within, within-true}
-use Rattle.sets.specs.Search.{all}
-use Rattle.sets.specs.Sets.{Set, Words, member, bit, within}
+use Rattle.sets.specs.Sets.{Set, Words, member, bit}
 use Rattle.rules.proofs.Rows.{leads-word, same_moves, words_set}
-use Rattle.rules.proofs.Second.{agreed_at, agree_of, second_length, second_words, leads-second, sound-between}
+use Rattle.rules.proofs.Second.{second_laws, second_length, second_words, leads-second, sound-between}
 use Rattle.rules.specs.Second.{second_of, agree}
 use Rattle.rules.specs.Table.{row, leads, sound_rows}
-use Rattle.edits.specs.Inner.{StatePut, LedIn, LedAll, same_row}
+use Rattle.edits.specs.Inner.{StatePut, LedIn, LedAll}
 
 -- ---- one bit put: s into row t
 put-bit : (l : List ℕ) (t s : ℕ) → length l ≡ 1024 → t < 256 → s < 256 → (a v : ℕ) → a < 256 → v < 256
@@ -230,10 +227,11 @@ turn_begins rows n = record {
       ∙ bit-zero (v % 64) ∙ sym (ap (λ (c : Bool). c && leads rows v t) (le-ltb v 0 (omega arith)));
 }
 
-pub turn_goes : (rows second second' : List ℕ) (x : Set) (n s : ℕ) → Turning rows second n s → s < n → x ≡ row rows s → LedAll second second' x s
-    → Turning rows second' n (s + 1)
+-- end is n
+pub turn_goes : (rows second second' : List ℕ) (x : Set) (n s end : ℕ) → end ≡ n → Turning rows second n s → s < end → x ≡ row rows s
+    → LedAll second second' x s → Turning rows second' n (s + 1)
 unfolding leads
-turn_goes rows second second' x n s v l e a = record {
+turn_goes rows second second' x n s end d v l e a = record {
   in-range = omega arith;
   long = a.long;
   words = a.words v.words;
@@ -247,8 +245,9 @@ turn_goes rows second second' x n s v l e a = record {
     step t w (inr n) (inr h) = rw (le-ltb w s h, ne_eqb w s n, le-ltb w (s + 1) (omega (arith, n)))
 
 -- from n up a sound table has no move
-pub turn_ends : (rows second : List ℕ) (n s : ℕ) → Turning rows second n s → n ≤ s → sound_rows n rows ≡ true → second ≡ second_of rows
-turn_ends rows second n s v l sound =
+pub turn_ends : (rows second : List ℕ) (n s end : ℕ) → end ≡ n → Turning rows second n s → end ≤ s → sound_rows n rows ≡ true
+    → second ≡ second_of rows
+turn_ends rows second n s end d v l sound =
     same_moves second (second_of rows) v.long (second_length rows) v.words (second_words rows)
     (λ t a lt la. v.at t a lt la ∙ past t a lt la (lt_or_ge a s) ∙ sym (leads-second rows t a lt la))
   where
@@ -258,58 +257,21 @@ turn_ends rows second n s v l sound =
         ap (λ (c : Bool). c && leads rows a t) (le-ltb a s h)
         ∙ sym (never (leads rows a t) (λ e. let low = (sound-between n rows sound).at a t la lt e in omega (arith, low.0)))
 
--- ---- two rows that are the same; x and y are the rows, r is what the first test answers
-module _ (a b : List ℕ) (t : ℕ) (x y : Set) (ex : x ≡ row a t) (ey : y ≡ row b t) (r : Bool) (e : r ≡ within 256 x y) where
-  pub row-differs : not r ≡ true → false ≡ same_row a b t
-  unfolding same_row
-  row-differs h = rw (← ex, ← ey, sym e ∙ not-true r h)
-
-  pub row_same : not r ≡ false → (q : Bool) → q ≡ within 256 y x → q ≡ same_row a b t
-  unfolding same_row
-  row_same h q d = d ∙ rw (← ex, ← ey, sym e ∙ not-false r h)
-
--- ---- agreement, row by row
+-- ---- agreement: a table of 1,024 words agrees where it is the one made; other is made again
 both_ways : (a b : Bool) → (a ≡ true → b ≡ true) → (b ≡ true → a ≡ true) → a ≡ b
 both_ways true b h k = sym (h refl)
 both_ways false true h k = k refl
 both_ways false false h k = refl
 
-row-says : (a b : List ℕ) (t : ℕ) → same_row a b t ≡ true → (s : ℕ) → s < 256 → leads a t s ≡ leads b t s
-unfolding same_row leads
-row-says a b t e s l =
-    let (first, other) = and-true (within 256 (row a t) (row b t)) (within 256 (row b t) (row a t)) e in
-    both_ways _ _ ((is_within 256 _ _ first).at s l) ((is_within 256 _ _ other).at s l)
-
-says_row : (a b : List ℕ) (t : ℕ) → ((s : ℕ) → s < 256 → leads a t s ≡ leads b t s) → same_row a b t ≡ true
-unfolding same_row leads
-says_row a b t h =
-    and_intro (within-true 256 (record { at = λ s l e. sym (h s l) ∙ e })) (within-true 256 (record { at = λ s l e. h s l ∙ e }))
-
-pub rows_agree : (rows second made : List ℕ) → made ≡ second_of rows → (r : Bool) → r ≡ all 256 (same_row second made) → r ≡ agree rows second
-rows_agree rows second made made-is r q = q ∙ go (all-says 256 (same_row second made))
+pub tables_agree : (rows second made other : List ℕ) (r : Bool) → length second ≡ 1024 → Words second → made ≡ second_of rows → other ≡ made
+    → r ≡ pointwise eqb second other → r ≡ agree rows second
+tables_agree rows second made other r long words made-is other-is e = e ∙ both_ways _ _ there back
   where
-    made-leads : (t s : ℕ) → t < 256 → s < 256 → leads made t s ≡ leads rows s t
-    made-leads t s m l = ap (λ (x : List ℕ). leads x t s) made-is ∙ leads-second rows t s m l
+    is : other ≡ second_of rows
+    is = other-is ∙ made-is
 
-    go : {b : Bool} → Says ((t : ℕ) → t < 256 → same_row second made t ≡ true) ((t : ℕ) × (t < 256) × (same_row second made t ≡ false)) b
-        → b ≡ agree rows second
-    go (pass h) = sym (agree_of rows second (λ s t l m. sym (row-says second made t (h t m) s l ∙ made-leads t s m l)))
-    go (fail w) = sym (never (agree rows second) (λ a.
-        clash (says_row second made w.0 (λ s l. sym (agreed_at rows second a s w.0 l w.1) ∙ sym (made-leads w.0 s w.1 l))) w.2))
+    there : pointwise eqb second other ≡ true → agree rows second ≡ true
+    there h = ap (agree rows) ((bytes_decides second other).0 h ∙ is) ∙ second_laws.made rows
 
--- ---- the loop of `copy` at j: the words before it are copied
-pub record Copying (made second₀ second : List ℕ) (i : ℕ) : Type 0 where
-  pub in-range : i ≤ 1024
-  pub filled : Filled 0 (λ j. get_or made j 0) second₀ second i
-
-pub copy_begins : (made second : List ℕ) → Copying made second second 0
-copy_begins made second = record { in-range = omega arith; filled = fill_none 0 (λ j. get_or made j 0) second }
-
-module _ (made second₀ second : List ℕ) (i : ℕ) (v : Copying made second₀ second i) (long : length second₀ ≡ 1024) where
-  pub copy_goes : i < 1024 → (w : ℕ) → w ≡ get_or made i 0 → Copying made second₀ (set second i w) (i + 1)
-  copy_goes l w e = record { in-range = omega arith; filled = fill_more 0 (λ j. get_or made j 0) second₀ second i w v.filled (omega arith) e }
-
-  pub copy_ends : length made ≡ 1024 → 1024 ≤ i → second ≡ made
-  copy_ends made-long l =
-      fill_all 0 (λ j. get_or made j 0) second₀ second i 1024 v.filled l long
-      ∙ sym (is_tabulate 0 1024 (λ j. get_or made j 0) made made-long (λ j m. refl))
+    back : agree rows second ≡ true → pointwise eqb second other ≡ true
+    back h = (bytes_decides second other).1 ((second_laws.agreed rows second long words h).is ∙ sym is)

@@ -1,7 +1,7 @@
--- For the crate's own use: what a state, a word of a row and a whole row add to the second table; when two rows are the same.
-use Rattle.std.specs.Prelude.{ℕ, ◌/◌, ◌%◌, ◌<◌, Bool, ◌&&◌, ◌||◌, List, ◌≡◌, eqb, length}
-use Rattle.rules.specs.Table.{row, leads}
-use Rattle.sets.specs.Sets.{Set, Words, member, bit, within}
+-- For the crate's own use: what a state, a word of a row and a whole row add to the second table.
+use Rattle.std.specs.Prelude.{ℕ, ◌/◌, ◌%◌, ◌<◌, ◌&&◌, ◌||◌, List, ◌≡◌, eqb, length}
+use Rattle.rules.specs.Table.{leads}
+use Rattle.sets.specs.Sets.{Set, Words, member, bit}
 
 -- s is put into row t
 pub record StatePut (second second' : List ℕ) (t s : ℕ) : Type 0 where
@@ -20,7 +20,3 @@ pub record LedAll (second second' : List ℕ) (x : Set) (s : ℕ) : Type 0 where
   pub long : length second' ≡ 1024
   pub words : Words second → Words second'
   pub at : (t v : ℕ) → t < 256 → v < 256 → leads second' t v ≡ (leads second t v || (eqb v s && member x t))
-
--- row t of two tables holds the same
-unfoldable pub same_row : List ℕ → List ℕ → ℕ → Bool
-same_row a b t = within 256 (row a t) (row b t) && within 256 (row b t) (row a t)

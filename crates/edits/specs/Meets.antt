@@ -1,6 +1,7 @@
 -- What is proved of the promises on two tables. proofs/Meets.antt proves it.
-use Rattle.std.specs.Prelude.{ℕ, Bool, true, false, not, List, ◌≡◌, length}
+use Rattle.std.specs.Prelude.{ℕ, Bool, true, false, not, List, Result, ◌≡◌, length}
 use Rattle.answers.specs.Answer.{refused}
+use Rattle.answers.specs.declared.Refusal.{Refusal}
 use Rattle.sets.specs.Sets.{Proper, Words}
 use Rattle.rules.specs.Buffer.{entry_check}
 use Rattle.rules.specs.Second.{agree, Agreed, Edited}
@@ -35,11 +36,11 @@ pub record Sized (hints b set walk : List ℕ) : Type 0 where
 -- any run over the edited table, from any buffer, a kept one or another
 pub record KeptRuns (t : Table) (rows' : List ℕ) : Type 0 where
   -- 8 where the buffer now fails the entry check
-  pub refused_with_8 : (hints : List ℕ) (budget : ℕ) (b b' set set' walk walk' : List ℕ) (r : RunAnswer)
+  pub refused_with_8 : (hints : List ℕ) (budget : ℕ) (b b' set set' walk walk' : List ℕ) (r : Result RunAnswer Refusal)
       → RunPromise (after t rows') hints budget b b' set set' walk walk' r → Sized hints b set walk → entry_check (after t rows') b ≡ false
-      → said r.outcome ≡ refused 8
+      → said r ≡ refused 8
   -- where it passes, demands 2 and 3, read over the edited table
-  pub demands : (hints : List ℕ) (budget : ℕ) (b b' set set' walk walk' : List ℕ) (r : RunAnswer)
+  pub demands : (hints : List ℕ) (budget : ℕ) (b b' set set' walk walk' : List ℕ) (r : Result RunAnswer Refusal)
       → RunPromise (after t rows') hints budget b b' set set' walk walk' r → Sized hints b set walk → entry_check (after t rows') b ≡ true → Words b
       → Words hints
       → RunDemand2 (after t rows') hints budget b b' set' walk' r × RunDemand3 (after t rows') hints budget b r
@@ -47,7 +48,7 @@ pub record KeptRuns (t : Table) (rows' : List ℕ) : Type 0 where
   pub fresh : (b₀ b : List ℕ) → FreshPromise t.size b₀ b 0 → (length b ≡ 2066) × (entry_check (after t rows') b ≡ true) × Words b
   -- two runs over the edited table, from kept buffers or fresh ones, have one verdict
   pub same_verdict : (hints₁ hints₂ : List ℕ) (budget₁ budget₂ : ℕ) (b₁ b₁' set₁ set₁' walk₁ walk₁' b₂ b₂' set₂ set₂' walk₂ walk₂' : List ℕ)
-      (r₁ r₂ : RunAnswer) → RunPromise (after t rows') hints₁ budget₁ b₁ b₁' set₁ set₁' walk₁ walk₁' r₁ → Sized hints₁ b₁ set₁ walk₁
+      (r₁ r₂ : Result RunAnswer Refusal) → RunPromise (after t rows') hints₁ budget₁ b₁ b₁' set₁ set₁' walk₁ walk₁' r₁ → Sized hints₁ b₁ set₁ walk₁
       → entry_check (after t rows') b₁ ≡ true → Words b₁ → Words hints₁ → RunPromise (after t rows') hints₂ budget₂ b₂ b₂' set₂ set₂' walk₂ walk₂' r₂
       → Sized hints₂ b₂ set₂ walk₂ → entry_check (after t rows') b₂ ≡ true → Words b₂ → Words hints₂ → SameVerdict r₁ r₂
 

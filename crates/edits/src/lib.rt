@@ -5,13 +5,15 @@
 ghost use Rattle.std.specs.Prelude.{◌≡◌, ◌<◌, ◌≤◌, true, false, not, ◌≢◌, length};
 ghost use Rattle.std.specs.Int.Count.{count_trailing_zeros};
 ghost use Rattle.answers.specs.Refusals.{first_failing};
+ghost use Rattle.answers.specs.Said.{refusal_of};
 ghost use Rattle.sets.specs.Said.{Answers};
 ghost use Rattle.rules.specs.Table.{leads, sound_rows, backward as g};
 ghost use Rattle.rules.specs.Second.{into as states_into, second_of, alike, agree as agreed, backward_by_second};
 ghost use Rattle.edits.specs.Promises.{lent_tests, into_refusal, edit_refusal, g_refusal, SecondPromise, EditPromise};
-ghost use Rattle.edits.specs.Inner.{StatePut, LedIn, LedAll, same_row};
+ghost use Rattle.edits.specs.Inner.{StatePut, LedIn, LedAll};
 
-use sets::{SetAnswer, Smallest, StateSet};
+use answers::Refusal;
+use sets::StateSet;
 
 // The lowest bit that is set.
 fn lowest(w: u64) -> usize
@@ -23,8 +25,7 @@ fn lowest(w: u64) -> usize
 }
 
 // Puts s into row t.
-fn put_state(second: &mut [u64], t: usize, s: usize)
-    requires second_len { length second.old ≡ 1024 }
+fn put_state(second: &mut [u64; 1024], t: usize, s: usize)
     requires t_bound { t < 256 }
     requires s_bound { s < 256 }
     ensures { StatePut second.old second.new t s }
@@ -33,8 +34,7 @@ fn put_state(second: &mut [u64], t: usize, s: usize)
 }
 
 // Puts s into each row t from 64 q up whose bit, t - 64 q, is set in w.
-fn lead_in(second: &mut [u64], w: u64, q: usize, s: usize)
-    requires second_len { length second.old ≡ 1024 }
+fn lead_in(second: &mut [u64; 1024], w: u64, q: usize, s: usize)
     requires q_bound { q < 4 }
     requires s_bound { s < 256 }
     ensures { LedIn second.old second.new w q s }
@@ -48,9 +48,8 @@ fn lead_in(second: &mut [u64], w: u64, q: usize, s: usize)
 }
 
 // Puts s into each row that its own row holds.
-fn lead_all(second: &mut [u64], row: StateSet, s: usize)
-    requires second_len { length second.old ≡ 1024 }
-    requires s_bound { s < 256 }
+fn lead_all(second: &mut [u64; 1024], row: StateSet, s: usize)
+    requires { s < 256 }
     ensures { LedAll second.old second.new row.words s }
 {
     for q in 0..4 {
@@ -58,177 +57,182 @@ fn lead_all(second: &mut [u64], row: StateSet, s: usize)
     }
 }
 
-// The second table of a sound move table of n states, one step for each move.
-fn second_of(moves: &[u64], n: usize) -> [u64; 1024]
-    requires n_bound { n ≤ 256 }
-    requires moves_value { sound_rows n moves.now ≡ true }
+// The second table of a sound move table of N states, one step for each move.
+fn second_of(moves: &[u64], size: u16) -> [u64; 1024]
+    requires size_bound { size ≤ 256 }
+    requires moves_value { sound_rows size moves.now ≡ true }
     ensures { result ≡ second_of moves.now }
 {
     let mut second = [0; 1024];
-    for s in 0..n {
+    for s in 0..usize::from(size) {
         lead_all(&mut second, StateSet::read(moves, 4 * s), s);
     }
     second
 }
 
-// Whether row t of two tables holds the same.
-fn same_row(a: &[u64], b: &[u64], t: usize) -> bool
-    requires { t < 256 }
-    ensures { result ≡ same_row a.now b.now t }
-{
-    let x = StateSet::read(a, 4 * t);
-    let y = StateSet::read(b, 4 * t);
-    if !x.within(y) {
-        return false;
-    }
-    y.within(x)
-}
-
-// Whether the two tables agree, the move table being sound for n states: all 256 rows are those of its second table.
-fn agree(moves: &[u64], second: &[u64], n: usize) -> bool
-    requires n_bound { n ≤ 256 }
-    requires moves_value { sound_rows n moves.now ≡ true }
+// Whether a second table is that of a move table, where a call is lent both.
+fn agree(moves: &[u64], second: &[u64], size: u16) -> bool
+    requires { first_failing (lent_tests size moves.now second.now) ≡ 0 }
     ensures { result ≡ agreed moves.now second.now }
 {
-    let made = second_of(moves, n);
-    for t in 0..256 {
-        if !same_row(second, &made, t) {
-            return false;
+    second == second_of(moves, size).as_slice()
+}
+
+// A move table of N states and a second table, as a call is lent them.
+#[derive(Clone, Copy)]
+struct Pair<'a> {
+    moves: &'a [u64],
+    second: &'a [u64],
+    size: u16,
+}
+
+impl Pair<'_> {
+    // The tests that every call begins with: 7, 2, 13.
+    fn test_lent(&self) -> Result<(), Refusal>
+        ensures { refusal_of result ≡ first_failing (lent_tests self.now.size self.now.moves.now self.now.second.now) }
+    {
+        let Pair {
+            moves,
+            second,
+            size,
+        } = *self;
+        if moves.len() != 1024 {
+            return Err(Refusal::WrongLength);
         }
+        if second.len() != 1024 {
+            return Err(Refusal::WrongLength);
+        }
+        if !sets::in_range(size) {
+            return Err(Refusal::OutOfRange);
+        }
+        if !moves::sound_rows(moves, size) {
+            return Err(Refusal::NotSound);
+        }
+        Ok(())
     }
-    true
-}
 
-// The refusals that every call begins with: 7, 2, 13, or 0 for none.
-fn refusal(moves: &[u64], second: &[u64], size: u16) -> u8
-    ensures { result ≡ first_failing (lent_tests size moves.now second.now) }
-{
-    if moves.len() != 1024 {
-        return answers::WRONG_LENGTH;
+    // The tests of `into`: then 14 and 4.
+    fn test_into(&self, t: u16) -> Result<(), Refusal>
+        ensures { refusal_of result ≡ into_refusal self.now.size self.now.moves.now self.now.second.now t }
+    {
+        self.test_lent()?;
+        if !agree(self.moves, self.second, self.size) {
+            return Err(Refusal::TablesDisagree);
+        }
+        if self.size <= t {
+            return Err(Refusal::NoSuchState);
+        }
+        Ok(())
     }
-    if second.len() != 1024 {
-        return answers::WRONG_LENGTH;
-    }
-    if !sets::in_range(size) {
-        return answers::OUT_OF_RANGE;
-    }
-    if !moves::sound_rows(moves, size) {
-        return answers::NOT_SOUND;
-    }
-    answers::NO_REFUSAL
-}
 
-// Copies the words of one table into another.
-fn copy(made: &[u64], second: &mut [u64])
-    requires made_len { length made.now ≡ 1024 }
-    requires second_len { length second.old ≡ 1024 }
-    ensures { second.new ≡ made.now }
-{
-    for j in 0..1024 {
-        second[j] = made[j];
+    // The tests of an edit: then 14, 4 for either state, and 15.
+    fn test_edit(&self, s: u16, t: u16, there: bool) -> Result<(), Refusal>
+        ensures { refusal_of result ≡ edit_refusal self.now.size self.now.moves.now self.now.second.now s t there }
+    {
+        self.test_lent()?;
+        if !agree(self.moves, self.second, self.size) {
+            return Err(Refusal::TablesDisagree);
+        }
+        if self.size <= s {
+            return Err(Refusal::NoSuchState);
+        }
+        if self.size <= t {
+            return Err(Refusal::NoSuchState);
+        }
+        if !differs(self.moves, s, t, there) {
+            return Err(Refusal::NothingToEdit);
+        }
+        Ok(())
+    }
+
+    // The tests of g by the second table: then 13 for the set, and 14.
+    fn test_g(&self, x: StateSet) -> Result<(), Refusal>
+        ensures { refusal_of result ≡ g_refusal self.now.size self.now.moves.now self.now.second.now x.words }
+    {
+        self.test_lent()?;
+        if !x.sound(self.size) {
+            return Err(Refusal::NotSound);
+        }
+        if !agree(self.moves, self.second, self.size) {
+            return Err(Refusal::TablesDisagree);
+        }
+        Ok(())
     }
 }
 
 // Makes the second table of a move table.
-pub fn make_second(moves: &[u64], size: u16, second: &mut [u64]) -> u8
-    ensures { SecondPromise size moves.now second.old second.new result }
+pub fn make_second(moves: &[u64], size: u16, second: &mut [u64]) -> Result<(), Refusal>
+    ensures { SecondPromise size moves.now second.old second.new (refusal_of result) }
 {
-    let no = refusal(moves, second, size);
-    if no != answers::NO_REFUSAL {
-        return no;
+    Pair {
+        moves,
+        second,
+        size,
     }
-    let made = second_of(moves, size as usize);
-    copy(&made, second);
-    no
-}
-
-// The refusal of `into`: 7, 2, 13, 14, 4, or 0 for none.
-fn into_refusal(moves: &[u64], second: &[u64], size: u16, t: u16) -> u8
-    ensures { result ≡ into_refusal size moves.now second.now t }
-{
-    let no = refusal(moves, second, size);
-    if no != answers::NO_REFUSAL {
-        return no;
-    }
-    if !agree(moves, second, size as usize) {
-        return answers::TABLES_DISAGREE;
-    }
-    if size <= t {
-        return answers::NO_SUCH_STATE;
-    }
-    answers::NO_REFUSAL
+    .test_lent()?;
+    let made = second_of(moves, size);
+    second.copy_from_slice(&made);
+    Ok(())
 }
 
 // The states with a move to t.
-pub fn into(moves: &[u64], second: &[u64], size: u16, t: u16) -> SetAnswer
+pub fn into(moves: &[u64], second: &[u64], size: u16, t: u16) -> Result<StateSet, Refusal>
     ensures { Answers (into_refusal size moves.now second.now t) (states_into moves.now t) result }
 {
-    let no = into_refusal(moves, second, size, t);
-    if no != answers::NO_REFUSAL {
-        let set = StateSet::EMPTY;
-        return SetAnswer { refusal: no, set };
+    Pair {
+        moves,
+        second,
+        size,
     }
-    let set = StateSet::read(second, 4 * (t as usize));
-    SetAnswer { refusal: no, set }
+    .test_into(t)?;
+    Ok(StateSet::read(second, 4 * usize::from(t)))
 }
 
 // Whether an edit changes something: a move to add is not there, one to remove is.
 fn differs(moves: &[u64], s: u16, t: u16, there: bool) -> bool
     ensures { result ≡ alike (leads moves.now s t) (not there) }
 {
-    let is = StateSet::read(moves, 4 * (s as usize)).member(t);
-    if there {
-        return !is;
-    }
-    is
-}
-
-// The refusal of an edit: 7, 2, 13, 14, 4, 15, or 0 for none.
-fn edit_refusal(moves: &[u64], second: &[u64], size: u16, s: u16, t: u16, there: bool) -> u8
-    ensures { result ≡ edit_refusal size moves.now second.now s t there }
-{
-    let no = refusal(moves, second, size);
-    if no != answers::NO_REFUSAL {
-        return no;
-    }
-    if !agree(moves, second, size as usize) {
-        return answers::TABLES_DISAGREE;
-    }
-    if size <= s {
-        return answers::NO_SUCH_STATE;
-    }
-    if size <= t {
-        return answers::NO_SUCH_STATE;
-    }
-    if !differs(moves, s, t, there) {
-        return answers::NOTHING_TO_EDIT;
-    }
-    answers::NO_REFUSAL
+    StateSet::read(moves, 4 * usize::from(s)).member(t) != there
 }
 
 // Puts the move from s to t into both tables, or takes it out.
-fn edit(moves: &mut [u64], second: &mut [u64], size: u16, s: u16, t: u16, there: bool) -> u8
-    ensures { EditPromise size moves.old moves.new second.old second.new s t there result }
+fn edit(
+    moves: &mut [u64],
+    second: &mut [u64],
+    size: u16,
+    s: u16,
+    t: u16,
+    there: bool,
+) -> Result<(), Refusal>
+    ensures { EditPromise size moves.old moves.new second.old second.new s t there (refusal_of result) }
 {
-    let no = edit_refusal(moves, second, size, s, t, there);
-    if no != answers::NO_REFUSAL {
-        return no;
+    Pair {
+        moves,
+        second,
+        size,
     }
+    .test_edit(s, t, there)?;
     moves::set_move(moves, s, t, there);
     moves::set_move(second, t, s, there);
-    no
+    Ok(())
 }
 
 // Adds the move from s to t.
-pub fn add(moves: &mut [u64], second: &mut [u64], size: u16, s: u16, t: u16) -> u8
-    ensures { EditPromise size moves.old moves.new second.old second.new s t true result }
+pub fn add(moves: &mut [u64], second: &mut [u64], size: u16, s: u16, t: u16) -> Result<(), Refusal>
+    ensures { EditPromise size moves.old moves.new second.old second.new s t true (refusal_of result) }
 {
     edit(moves, second, size, s, t, true)
 }
 
 // Removes the move from s to t.
-pub fn remove(moves: &mut [u64], second: &mut [u64], size: u16, s: u16, t: u16) -> u8
-    ensures { EditPromise size moves.old moves.new second.old second.new s t false result }
+pub fn remove(
+    moves: &mut [u64],
+    second: &mut [u64],
+    size: u16,
+    s: u16,
+    t: u16,
+) -> Result<(), Refusal>
+    ensures { EditPromise size moves.old moves.new second.old second.new s t false (refusal_of result) }
 {
     edit(moves, second, size, s, t, false)
 }
@@ -238,44 +242,30 @@ fn backward(second: &[u64], size: u16, x: StateSet) -> StateSet
     requires { size ≤ 256 }
     ensures { result.words ≡ backward_by_second size second.now x.words }
 {
-    let all = StateSet::full(size).set;
+    let all = StateSet::below(size);
     let mut rest = all.minus(x);
     let mut out = StateSet::EMPTY;
-    loop {
-        let Smallest::Member(t) = rest.smallest() else {
-            return all.minus(out);
-        };
-        out = out.join(StateSet::read(second, 4 * (t as usize)));
+    while let Some(t) = rest.smallest() {
+        out = out.join(StateSet::read(second, 4 * usize::from(t)));
         rest = rest.without(t);
     }
-}
-
-// The refusal of g by the second table: 7, 2, 13, 14, or 0 for none.
-fn g_refusal(moves: &[u64], second: &[u64], size: u16, x: StateSet) -> u8
-    ensures { result ≡ g_refusal size moves.now second.now x.words }
-{
-    let no = refusal(moves, second, size);
-    if no != answers::NO_REFUSAL {
-        return no;
-    }
-    if !x.sound(size) {
-        return answers::NOT_SOUND;
-    }
-    if !agree(moves, second, size as usize) {
-        return answers::TABLES_DISAGREE;
-    }
-    answers::NO_REFUSAL
+    all.minus(out)
 }
 
 // g(x), worked out from the second table.
-pub fn g_by_second(moves: &[u64], second: &[u64], size: u16, x: StateSet) -> SetAnswer
+pub fn g_by_second(
+    moves: &[u64],
+    second: &[u64],
+    size: u16,
+    x: StateSet,
+) -> Result<StateSet, Refusal>
     ensures { Answers (g_refusal size moves.now second.now x.words) (g size moves.now x.words) result }
 {
-    let no = g_refusal(moves, second, size, x);
-    if no != answers::NO_REFUSAL {
-        let set = StateSet::EMPTY;
-        return SetAnswer { refusal: no, set };
+    Pair {
+        moves,
+        second,
+        size,
     }
-    let set = backward(second, size, x);
-    SetAnswer { refusal: no, set }
+    .test_g(x)?;
+    Ok(backward(second, size, x))
 }

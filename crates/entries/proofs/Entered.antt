@@ -1,4 +1,4 @@
--- What a run may rely on after a refusal of 0.
+-- What a run may rely on after an Ok, which is a refusal of 0.
 use Prim.Native.Nat.{ℕ, ◌≤◌}
 use native.Mathlib.Omega.{arith}
 use mathlib.Core.Bool.{true}
@@ -6,7 +6,11 @@ use mathlib.Core.List.{List}
 use mathlib.Core.Path.{◌≡◌}
 use lib.ListN.{length}
 use Rattle.answers.proofs.Order.{none_failing}
+use Rattle.answers.proofs.Said.{refusal_once as one_answer}
 use Rattle.answers.proofs.Unique.{only}
+use Rattle.answers.specs.Said.{refusal_of}
+use Rattle.answers.specs.declared.Refusal.{Refusal}
+use Rattle.std.specs.Prelude.{Result}
 use Rattle.entries.specs.Refusal.{entry_refusal}
 use Rattle.rules.proofs.Held.{fit_by}
 use Rattle.rules.proofs.Ready.{Ready, good_by, ready_by}
@@ -48,6 +52,7 @@ enters t b words starts safe e =
     let h = entered t b e in
     ready_by (good_by t h.big starts safe h.sound) (fit_by t h.big b h.long words h.entry)
 
--- the refusal is the only one
-pub refusal_once : (t : Table) (b : List ℕ) {r r' : ℕ} → r ≡ entry_refusal t b → r' ≡ entry_refusal t b → r ≡ r'
-refusal_once t b = only
+-- the answer is the only one
+pub refusal_once : (t : Table) (b : List ℕ) (r r' : Result (Unit {0}) Refusal)
+    → refusal_of r ≡ entry_refusal t b → refusal_of r' ≡ entry_refusal t b → r ≡ r'
+refusal_once t b r r' e e' = one_answer r r' (only e e')

@@ -1,2 +1,3 @@
-pub mod Tests
+pub mod Widths
+pub mod Shapes
 pub mod Entered

@@ -1,61 +1,62 @@
 // The entry check: whether a table and a run buffer that a caller lends can be run.
 //
-// One call, for any words at all: `refusal` says what is wrong with them, or 0. What a run may rely on
-// after a 0 is a law, `enters` of proofs/Entered.antt.
+// One call, for any words at all: `check` says what is wrong with them. What a run may rely on
+// after an Ok is a law, `enters` of proofs/Entered.antt.
 #![tactic(auto)]
 
 ghost use Rattle.std.specs.Prelude.{◌≡◌, length};
-ghost use Rattle.moves.specs.Models.{on};
+ghost use Rattle.answers.specs.Said.{refusal_of};
+ghost use Rattle.moves.specs.Models.{as_table};
 ghost use Rattle.rules.specs.Buffer.{entry_check};
 ghost use Rattle.rules.proofs.Ready.{Good};
 ghost use Rattle.entries.specs.Refusal.{entry_refusal};
 
-use moves::Model;
+use crate::held::Held;
+use crate::order::Shape;
+use answers::Refusal;
+use moves::Table;
 
+mod held;
 mod order;
 mod places;
 
 // Whether the buffer passes the entry check.
-fn passes(moves: &[u64], model: Model, buf: &[u64]) -> bool
-    requires { (length buf.now ≡ 2066) × Good (on model moves.now) }
-    ensures { result ≡ entry_check (on model moves.now) buf.now }
+#[tactic(auto, unfolding(rules::specs::Buffer::entry_check, rules::specs::Buffer::each))]
+fn passes(table: &Table, buf: &[u64]) -> bool
+    requires { (length buf.now ≡ 2066) × Good (as_table table.now) }
+    ensures { result ≡ entry_check (as_table table.now) buf.now }
 {
-    if !places::ranges(model.size, buf[0], buf[1]) {
+    let size = table.model.size;
+    if !places::ranges(size, buf) {
         return false;
     }
-    if !places::unused(buf) {
+    let held = Held { buf };
+    if !places::unused(&held) || !places::sound_x(size, &held) || !places::sound_y(size, &held) {
         return false;
     }
-    if !places::sound_x(model.size, buf) {
-        return false;
-    }
-    if !places::sound_y(model.size, buf) {
-        return false;
-    }
-    if !order::chain(moves, model, buf) {
-        return false;
-    }
-    order::obstacles(moves, model, buf)
+    let shape = Shape {
+        table: *table,
+        held,
+    };
+    order::chain(&shape) && order::obstacles(&shape)
 }
 
-// The refusal of a table and a run buffer: 7, 2, 13, 8 in that order, or 0.
-pub fn refusal(moves: &[u64], model: Model, buf: &[u64]) -> u8
-    ensures { result ≡ entry_refusal (on model moves.now) buf.now }
+// What is wrong with a table and a run buffer: their lengths, N, the table's soundness and the entry check are tested in that order.
+#[tactic(auto, unfolding(crate::specs::Refusal::entry_refusal, answers::specs::Refusals::first_failing))]
+pub fn check(table: &Table, buf: &[u64]) -> Result<(), Refusal>
+    ensures { refusal_of result ≡ entry_refusal (as_table table.now) buf.now }
 {
-    if buf.len() != 2066 {
-        return answers::WRONG_LENGTH;
+    if buf.len() != 2066 || table.moves.len() != 1024 {
+        return Err(Refusal::WrongLength);
     }
-    if moves.len() != 1024 {
-        return answers::WRONG_LENGTH;
+    if !sets::in_range(table.model.size) {
+        return Err(Refusal::OutOfRange);
     }
-    if !sets::in_range(model.size) {
-        return answers::OUT_OF_RANGE;
+    if !table.is_sound() {
+        return Err(Refusal::NotSound);
     }
-    if !moves::sound_table(moves, model) {
-        return answers::NOT_SOUND;
+    if !passes(table, buf) {
+        return Err(Refusal::FailsEntry);
     }
-    if !passes(moves, model, buf) {
-        return answers::FAILS_ENTRY;
-    }
-    answers::NO_REFUSAL
+    Ok(())
 }

@@ -1,106 +1,64 @@
 // n and k in range, every word not in use 0, and no set with members from N up.
-ghost use Rattle.std.specs.Prelude.{◌≡◌, [], ◌∷◌, ◌+◌, ◌<◌, leb};
-ghost use Rattle.sets.specs.Search.{all};
-ghost use Rattle.rules.specs.Buffer.{decode, each, clear_x, clear_y, unused, sound_x, sound_y};
-ghost use Rattle.rules.proofs.Ready.{Spans};
+#![tactic(auto, unfolding(rules::specs::Buffer::decode))]
 
-use sets::StateSet;
+ghost use Rattle.std.specs.Prelude.{◌≡◌, ◌<◌, length};
+ghost use Rattle.sets.specs.Search.{all};
+ghost use Rattle.rules.specs.Buffer.{decode, ranges, clear_x, clear_y, unused, sound_x, sound_y};
+
+use crate::held::{Held, x_place, y_place};
 
 // Whether n is 2 to N+2 and k is 1 to n.
-pub fn ranges(size: u16, n: u64, k: u64) -> bool
-    ensures { result ≡ each (leb 2 n ∷ leb n (size + 2) ∷ leb 1 k ∷ leb k n ∷ []) }
+#[tactic(auto, unfolding(rules::specs::Buffer::decode, rules::specs::Buffer::ranges, rules::specs::Buffer::each))]
+pub fn ranges(size: u16, buf: &[u64]) -> bool
+    requires { length buf.now ≡ 2066 }
+    ensures { result ≡ ranges size (decode buf.now) }
 {
-    if n < 2 {
-        return false;
-    }
-    if (size as u64) + 2 < n {
-        return false;
-    }
-    if k < 1 {
-        return false;
-    }
-    k <= n
+    let n = buf[0];
+    let k = buf[1];
+    2 <= n && n <= u64::from(size) + 2 && 1 <= k && k <= n
 }
 
 // Whether the words of every x that is not held are 0.
-fn clear_x(buf: &[u64]) -> bool
-    requires { Spans buf.now }
-    ensures { result ≡ all 258 (clear_x buf.now) }
+fn clear_x(held: &Held) -> bool
+    ensures { result ≡ all 258 (clear_x held.now.buf.now) }
 {
-    let n = buf[0] as usize;
-    for j in n..258 {
-        if !StateSet::read(buf, 2 + 4 * j).sound(0) {
-            return false;
-        }
-    }
-    true
+    (held.n()..258).all(|j| x_place(held.buf, j).sound(0))
 }
 
 // Whether y_j is held, or its words are 0.
-fn clear_y_at(buf: &[u64], j: usize) -> bool
-    requires { Spans buf.now × (j < 258) }
-    ensures { result ≡ clear_y buf.now j }
+#[tactic(auto, unfolding(rules::specs::Buffer::decode, rules::specs::Buffer::clear_y))]
+fn clear_y_at(held: &Held, j: usize) -> bool
+    requires { j < 258 }
+    ensures { result ≡ clear_y held.now.buf.now j }
 {
-    let n = buf[0] as usize;
-    let k = buf[1] as usize;
-    if k <= j {
-        if j < n {
-            return true;
-        }
-    }
-    StateSet::read(buf, 1034 + 4 * j).sound(0)
+    (held.k() <= j && j < held.n()) || y_place(held.buf, j).sound(0)
 }
 
 // Whether the words of every y that is not held are 0.
-fn clear_y(buf: &[u64]) -> bool
-    requires { Spans buf.now }
-    ensures { result ≡ all 258 (clear_y buf.now) }
+fn clear_y(held: &Held) -> bool
+    ensures { result ≡ all 258 (clear_y held.now.buf.now) }
 {
-    let end: usize = 258;
-    for j in 0..end {
-        if !clear_y_at(buf, j) {
-            return false;
-        }
-    }
-    true
+    (0..258).all(|j| clear_y_at(held, j))
 }
 
 // Whether every word not in use is 0.
-pub fn unused(buf: &[u64]) -> bool
-    requires { Spans buf.now }
-    ensures { result ≡ unused buf.now }
+#[tactic(auto, unfolding(rules::specs::Buffer::unused, rules::specs::Buffer::each))]
+pub fn unused(held: &Held) -> bool
+    ensures { result ≡ unused held.now.buf.now }
 {
-    if !clear_x(buf) {
-        return false;
-    }
-    clear_y(buf)
+    clear_x(held) && clear_y(held)
 }
 
 // Whether no x has members from N up.
-pub fn sound_x(size: u16, buf: &[u64]) -> bool
-    requires { Spans buf.now }
-    ensures { result ≡ sound_x size (decode buf.now) (decode buf.now).n }
+pub fn sound_x(size: u16, held: &Held) -> bool
+    ensures { result ≡ sound_x size (decode held.now.buf.now) (decode held.now.buf.now).n }
 {
-    let n = buf[0] as usize;
-    for j in 0..n {
-        if !StateSet::read(buf, 2 + 4 * j).sound(size) {
-            return false;
-        }
-    }
-    true
+    (0..held.n()).all(|j| held.x(j).sound(size))
 }
 
 // Whether no held y has members from N up.
-pub fn sound_y(size: u16, buf: &[u64]) -> bool
-    requires { Spans buf.now }
-    ensures { result ≡ sound_y size (decode buf.now) }
+pub fn sound_y(size: u16, held: &Held) -> bool
+    ensures { result ≡ sound_y size (decode held.now.buf.now) }
 {
-    let n = buf[0] as usize;
-    let k = buf[1] as usize;
-    for j in k..n {
-        if !StateSet::read(buf, 1034 + 4 * j).sound(size) {
-            return false;
-        }
-    }
-    true
+    (held.k()..held.n()).all(|j| held.y(j).sound(size))
 }

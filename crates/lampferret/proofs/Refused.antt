@@ -5,6 +5,7 @@ use mathlib.Core.Bool.{Bool, true, false, ◌&&◌, ◌||◌, cond, false≢true
 use mathlib.Core.List.{List, [], ◌∷◌, ◌++◌}
 use mathlib.Core.Logic.{◌≢◌}
 use mathlib.Core.Path.{◌≡◌, refl, sym, ap, ◌∙◌}
+use Rattle.std.specs.Prelude.{Result, Ok, Err}
 use borrow.Author.Tests.{ne_eqb}
 use lib.Dec.{eqb, leb}
 use lib.IntN.{ℤ}
@@ -13,7 +14,10 @@ use Rattle.answers.proofs.Order.{numbers_in, failing_in}
 use Rattle.answers.proofs.Values.{no_value}
 use Rattle.answers.specs.Answer.{Answer, refused, given, unless_refused}
 use Rattle.answers.specs.Refusals.{one_of, first_failing}
+use Rattle.answers.specs.declared.Refusal.{Refusal}
+use Rattle.sets.specs.Said.{said_set, Answers}
 use Rattle.sets.specs.Sets.{Set, in_range, size_refusal}
+use Rattle.sets.specs.declared.StateSet.{StateSet}
 use Rattle.turns.specs.Turn.{is_angle, between, turn_of}
 use Rattle.rules.specs.Buffer.{encode, decode}
 use Rattle.rules.specs.Rules as rules
@@ -31,12 +35,13 @@ use Rattle.runs.specs.Said.{said}
 use Rattle.runs.specs.declared.RunAnswer.{RunAnswer}
 use Rattle.tables.proofs.Numbered.{Numbered, off, on, step_numbered, reading-numbered}
 use Rattle.tables.specs.Control.{write_refusal, writing, reading}
-use Rattle.tables.specs.Format.{section_number, Contents, Taken, refused_at, taken}
-use Rattle.tables.specs.Said.{section_step, number_of, Read, length_of, put_in}
+use Rattle.tables.specs.Format.{section_number, Contents, Taken, refused_at, taken, and_then}
+use Rattle.tables.specs.Said.{section_step, said_reading, Read, length_of, put_in}
+use Rattle.tables.specs.declared.Fault.{Fault}
 use Rattle.tables.specs.declared.Reading.{Reading}
 use Rattle.listings.specs.Listing.{reached_refusal, reached_wanted}
 use Rattle.listings.specs.Said.{answered, written}
-use Rattle.lampferret.specs.Boundary.{kept, in_words, rule_number, Gives}
+use Rattle.lampferret.specs.Boundary.{kept, in_words, rule_number, Gives, read_number, read_offset, read_into}
 use Rattle.lampferret.specs.Refused.{Demand1, Demand1Boundary}
 
 -- ---- what a refusal equals
@@ -113,6 +118,11 @@ unfolding unless_refused
 unless-refused zero a e = no_value (sym e)
 unless-refused (suc n) a e = (λ q. omega arith, sym (one e))
 
+-- .. a set: the refusal's numbers
+set-number : (ns : List ℕ) (n : ℕ) (x : Set) (r : Result StateSet Refusal) (k : ℕ) → (n ≢ 0 → one_of ns n ≡ true) → Answers n x r
+    → said_set r ≡ refused k → one_of ns k ≡ true
+set-number ns n x r k h p e = let (some, same) = unless-refused n x (sym p.answer ∙ e) in rw same (h some)
+
 -- ---- a single rule
 single-number : (t : Table) (s : State) (z : Set) (k : ℕ) → single t s z ≡ refused k → one_of (7 ∷ 2 ∷ 13 ∷ 8 ∷ 10 ∷ 11 ∷ 9 ∷ []) k ≡ true
 unfolding single one_of
@@ -153,8 +163,8 @@ is_11 : one_of (7 ∷ 2 ∷ 13 ∷ 8 ∷ 11 ∷ []) 11 ≡ true
 unfolding one_of
 is_11 = refl
 
-run-refused : (t : Table) (hints : List ℕ) (b b' set set' walk walk' : List ℕ) (o : Ran) (r : RunAnswer) (k : ℕ)
-    → Answered t (run_refusal t hints b set walk) o b b' set set' walk walk' r → said r.outcome ≡ refused k
+run-refused : (t : Table) (hints : List ℕ) (b b' set set' walk walk' : List ℕ) (o : Ran) (r : Result RunAnswer Refusal) (k : ℕ)
+    → Answered t (run_refusal t hints b set walk) o b b' set set' walk walk' r → said r ≡ refused k
     → (one_of (7 ∷ 2 ∷ 13 ∷ 8 ∷ 11 ∷ []) k ≡ true) × (b' ≡ b) × (set' ≡ set) × (walk' ≡ walk)
 unfolding run_answer ran set_after walk_after
 run-refused t hints b b' set set' walk walk' o r k p e =
@@ -181,17 +191,20 @@ section-number i N b at k place e = go _ (step_numbered i N b at) e
     go (refused_at m p) (off h) q = let same : m ≡ k = cc in rw same at h
     go (taken v) on q = let z : ◌≡◌ {A = ℕ} 0 1 = cc in absurd (omega arith)
 
-read-refused : (file rows : List ℕ) (angles : List ℤ) (modes : List ℕ) (r : Reading) (rows' : List ℕ) (angles' : List ℤ) (modes' : List ℕ)
-    → Read file rows angles modes r rows' angles' modes' → r.refusal ≢ 0
-    → (one_of (7 ∷ 1 ∷ 2 ∷ 3 ∷ 4 ∷ 5 ∷ 6 ∷ []) r.refusal ≡ true) × (rows' ≡ rows) × (angles' ≡ angles) × (modes' ≡ modes)
-read-refused file rows angles modes r rows' angles' modes' p h =
+read-refused : (file rows : List ℕ) (angles : List ℤ) (modes : List ℕ) (r : Result Reading Fault) (rows' : List ℕ) (angles' : List ℤ) (modes' : List ℕ)
+    (k place : ℕ) → Read file rows angles modes r rows' angles' modes' → said_reading r ≡ refused_at k place
+    → (one_of (7 ∷ 1 ∷ 2 ∷ 3 ∷ 4 ∷ 5 ∷ 6 ∷ []) k ≡ true) × (rows' ≡ rows) × (angles' ≡ angles) × (modes' ≡ modes)
+unfolding and_then
+read-refused file rows angles modes r rows' angles' modes' k place p e =
     go (reading file rows angles modes) (reading-numbered file rows angles modes) refl
   where
     go : (x : Taken Contents) → Numbered (7 ∷ 1 ∷ 2 ∷ 3 ∷ 4 ∷ 5 ∷ 6 ∷ []) x → reading file rows angles modes ≡ x
-        → (one_of (7 ∷ 1 ∷ 2 ∷ 3 ∷ 4 ∷ 5 ∷ 6 ∷ []) r.refusal ≡ true) × (rows' ≡ rows) × (angles' ≡ angles) × (modes' ≡ modes)
-    go (refused_at k at) (off m) q =
-        (rw (p.refusal ∙ ap number_of q) m, rw q at p.filled_rows, rw q at p.filled_angles, rw q at p.filled_modes)
-    go (taken l) on q = absurd (h (p.refusal ∙ ap number_of q))
+        → (one_of (7 ∷ 1 ∷ 2 ∷ 3 ∷ 4 ∷ 5 ∷ 6 ∷ []) k ≡ true) × (rows' ≡ rows) × (angles' ≡ angles) × (modes' ≡ modes)
+    go (refused_at m at) (off h) q =
+        let both = rw q at (sym e ∙ p.answer) in
+        let same : m ≡ k = cc in
+        (rw same at h, rw q at p.filled_rows, rw q at p.filled_angles, rw q at p.filled_modes)
+    go (taken l) on q = let both = rw q at (sym e ∙ p.answer) in let z : ◌≡◌ {A = ℕ} 0 1 = cc in absurd (omega arith)
 
 writing-refused : (c : Control) (out out' : List ℕ) (k : ℕ) → length_of (writing c (length out)) ≡ refused k → out' ≡ put_in (writing c (length out)) out
     → (one_of (7 ∷ 2 ∷ 13 ∷ 3 ∷ 12 ∷ []) k ≡ true) × (out' ≡ out)
@@ -231,18 +244,18 @@ reached_refused c rules walk states m e = let (n, same) = unless-refused _ _ e i
 pub demand_1 : Demand1
 demand_1 =
     record {
-      full = λ N r p h. rw p.refusal (full-number N (rw p.refusal at h));
+      full = λ N r k p e. set-number _ _ _ r k (full-number N) p e;
       turn = turn_number;
-      f_and_g = λ N rows x result r p h. rw p.refusal (move-number N rows x (rw p.refusal at h));
+      f_and_g = λ N rows x result r k p e. set-number _ _ result r k (move-number N rows x) p e;
       second = λ N rows second second' r p h.
           let h' = rw p.answer at h in
           (rw p.answer (second_number N rows second h'), p.second_is ∙ rw (ne_eqb (first_failing (lent_tests N rows second)) 0 h'));
-      into = λ N rows second t result r p h. rw p.refusal (into-number N rows second t (rw p.refusal at h));
+      into = λ N rows second t result r k p e. set-number _ _ result r k (into-number N rows second t) p e;
       edit = λ N rows rows' second second' s t there r p h.
           let h' = rw p.answer at h in
           let refused-is = ne_eqb (edit_refusal N rows second s t there) 0 h' in
           (rw p.answer (edit_number N rows second s t there h'), p.rows_are ∙ rw refused-is, p.second_is ∙ rw refused-is);
-      g_by_second = λ N rows second x result r p h. rw p.refusal (by_second_number N rows second x (rw p.refusal at h));
+      g_by_second = λ N rows second x result r k p e. set-number _ _ result r k (by_second_number N rows second x) p e;
       entry = entry-number;
       fresh = λ N b b' r p h.
           let h' = rw p.answer at h in
@@ -266,6 +279,15 @@ gives_refused (given a) old new r p h = absurd (h p.refusal)
 kept-refused : {A : Type 0} (k : ℕ) (x old new : A) → new ≡ kept k x old → k ≢ 0 → new ≡ old
 kept-refused zero x old new e h = absurd (h refl)
 kept-refused (suc k) x old new e h = e
+
+reading_refused : (a : Result Reading Fault) (r : ℕ) → r ≡ read_number a → r ≢ 0 → said_reading a ≡ refused_at r (read_offset a)
+reading_refused (Ok l) r e h = absurd (h e)
+reading_refused (Err f) r e h = ap (λ k. refused_at k f.offset) (sym e)
+
+into_refused : {A : Type 0} (part : Reading → A) (a : Result Reading Fault) (r : ℕ) (old new : A) → r ≡ read_number a → r ≢ 0
+    → new ≡ read_into part a old → new ≡ old
+into_refused part (Ok l) r old new e h q = absurd (h e)
+into_refused part (Err f) r old new e h q = q
 
 in-words : {A B : Type 0} (f : A → B) (a : Answer A) (k : ℕ) → in_words f a ≡ refused k → a ≡ refused k
 in-words f (refused m) k e = ap refused (one e)
@@ -296,15 +318,15 @@ demand_1_boundary =
           let (n, same, same_set, same-walk) = demand_1.run t hints budget b b' set set' walk walk' p.run r p.promised (in-words _ _ r e) in
           (n, same, same_set, same-walk, q);
       read = λ file rows rows' angles angles' modes modes' starts starts' safe safe' counts counts' offset' r p h.
-          let h' = rw p.answer at h in
-          let (n, same_rows, same-angles, same-modes) = read-refused file rows angles modes p.reading rows' angles' modes' p.promised h' in (
-            rw p.answer n,
+          let (n, same_rows, same-angles, same-modes) =
+          demand_1.read file rows angles modes p.reading rows' angles' modes' r _ p.promised (reading_refused p.reading r p.answer h) in (
+            n,
             same_rows,
             same-angles,
             same-modes,
-            kept-refused r _ starts starts' p.starts_are h,
-            kept-refused r _ safe safe' p.safe_are h,
-            kept-refused r _ counts counts' p.counts_are h,
+            into_refused _ p.reading r starts starts' p.answer h p.starts_are,
+            into_refused _ p.reading r safe safe' p.answer h p.safe_are,
+            into_refused _ p.reading r counts counts' p.answer h p.counts_are,
           );
       write = λ c out out' old new r p h.
           let (e, q) = gives_refused _ old new r p.answer h in

@@ -2,7 +2,7 @@
 use Prim.Native.Nat.{ℕ}
 use mathlib.Core.Bool.{Bool}
 use mathlib.Core.List.{List, [], ◌∷◌}
-use mathlib.Core.Path.{◌≡◌, sym, subst, ◌∙◌}
+use mathlib.Core.Path.{◌≡◌, sym, ap, subst, ◌∙◌}
 use lib.IntN.{ℤ}
 use Rattle.answers.specs.Answer.{Answer}
 use Rattle.answers.proofs.Unique.{only}
@@ -14,7 +14,8 @@ use Rattle.edits.specs.Promises.{SecondPromise, EditPromise}
 use Rattle.edits.proofs.Unique as edits
 use Rattle.moves.specs.Models.{Control}
 use Rattle.tables.proofs.Unique as tables
-use Rattle.lampferret.specs.Boundary.{kept, number, Gives, answer_words, SetGiven, SingleGiven, RunGiven, ReadGiven, WriteGiven, ListGiven}
+use Rattle.lampferret.specs.Boundary.{number, Gives, answer_words, read_number, read_offset, read_into}
+use Rattle.lampferret.specs.Boundary.{SetGiven, SingleGiven, RunGiven, ReadGiven, WriteGiven, ListGiven}
 
 pub count-once : (x : Set) {r r' : ℕ} → r ≡ count 256 x → r' ≡ count 256 x → r ≡ r'
 count-once x = only
@@ -31,17 +32,17 @@ pub gives_once : {A : Type 0} (a : Answer A) (old : A) {new new' : A} {r r' : �
 gives_once a old p q = (only p.refusal q.refusal, only p.place q.place)
 
 pub fresh-once : (N : ℕ) (b : List ℕ) {b' b'' : List ℕ} {r r' : ℕ} → FreshPromise N b b' r → FreshPromise N b b'' r' → (r ≡ r') × (b' ≡ b'')
-fresh-once = runs.fresh-once
+fresh-once N b p q = (only p.answer q.answer, only p.buffer q.buffer)
 
 pub second_once : (N : ℕ) (rows second : List ℕ) {second₁ second₂ : List ℕ} {r₁ r₂ : ℕ} → SecondPromise N rows second second₁ r₁
     → SecondPromise N rows second second₂ r₂ → (r₁ ≡ r₂) × (second₁ ≡ second₂)
-second_once = edits.second_once
+second_once = edits.second_numbers
 
 -- a move added or removed
 pub edit_once : (N : ℕ) (rows second : List ℕ) (s t : ℕ) (there : Bool) {rows₁ rows₂ second₁ second₂ : List ℕ} {r₁ r₂ : ℕ}
     → EditPromise N rows rows₁ second second₁ s t there r₁ → EditPromise N rows rows₂ second second₂ s t there r₂
     → (r₁ ≡ r₂) × (rows₁ ≡ rows₂) × (second₁ ≡ second₂)
-edit_once = edits.edit_once
+edit_once = edits.edit_numbers
 
 pub single-once :
     (t : Table) (z : Set) (b : List ℕ) (old : ℕ) {b' b'' : List ℕ} {new new' r r' : ℕ} → SingleGiven t z b b' old new r
@@ -65,16 +66,15 @@ module _ (file rows : List ℕ) (angles : List ℤ) (modes starts safe counts : 
       × (offset₁ ≡ offset₂)
   read-once =
       let o = tables.read-once file rows angles modes p.promised q.promised in
-      let a : p.reading ≡ q.reading = o.0 in
-      let r : r₁ ≡ r₂ = p.answer ∙ (λ i. (a i).refusal) ∙ sym q.answer in (
-        r,
+      let a : p.reading ≡ q.reading = o.0 in (
+        p.answer ∙ ap read_number a ∙ sym q.answer,
         o.1,
         o.2,
         o.3,
-        p.starts_are ∙ (λ i. kept (r i) (a i).model.starts.words starts) ∙ sym q.starts_are,
-        p.safe_are ∙ (λ i. kept (r i) (a i).model.safe.words safe) ∙ sym q.safe_are,
-        p.counts_are ∙ (λ i. kept (r i) ((a i).model.size ∷ (a i).moves ∷ []) counts) ∙ sym q.counts_are,
-        p.offset_is ∙ (λ i. (a i).offset) ∙ sym q.offset_is,
+        p.starts_are ∙ ap (λ x. read_into (λ l. l.model.starts.words) x starts) a ∙ sym q.starts_are,
+        p.safe_are ∙ ap (λ x. read_into (λ l. l.model.safe.words) x safe) a ∙ sym q.safe_are,
+        p.counts_are ∙ ap (λ x. read_into (λ l. l.model.size ∷ l.moves ∷ []) x counts) a ∙ sym q.counts_are,
+        p.offset_is ∙ ap read_offset a ∙ sym q.offset_is,
       )
 
 pub write_once :

@@ -1,34 +1,29 @@
 -- What the calls for C and Rust promise: the refusal's number, 0 for none, and what each lent place holds then.
-use Rattle.std.specs.Prelude.{ℕ, zero, suc, List, [], ◌∷◌, ◌≡◌, ℤ, length}
-use Rattle.std.proofs.Math.Option.{Option, none, some}
+use Rattle.std.specs.Prelude.{ℕ, zero, suc, Option, None, Some, Result, Ok, Err, List, [], ◌∷◌, ◌≡◌, ℤ, length}
 use Rattle.answers.specs.Answer.{Answer, refused, given}
 use Rattle.answers.specs.Refusals.{no_refusal}
+use Rattle.answers.specs.Said.{number_of}
+use Rattle.answers.specs.declared.Refusal.{Refusal}
 use Rattle.sets.specs.Sets.{Set}
 use Rattle.rules.specs.Table.{Table}
 use Rattle.rules.specs.Rules.{Rule, Unfold, Candidate, Decide, Conflict}
 use Rattle.rules.specs.Single.{single}
 use Rattle.rules.specs.Buffer.{decode}
 use Rattle.runs.specs.declared.RunAnswer.{RunAnswer}
-use Rattle.runs.specs.Said.{Outcome, safe_with, reached_with, not_ended, said}
+use Rattle.runs.specs.Said.{Outcome, safe_with, reached_with, not_ended, said, rules_of, taken_of, used_of}
 use Rattle.entries.specs.Refusal.{entry_refusal}
 use Rattle.runs.specs.Promises.{RunPromise, single_answer, single_buffer}
+use Rattle.tables.specs.declared.Fault.{Fault}
 use Rattle.tables.specs.declared.Reading.{Reading}
 use Rattle.moves.specs.Models.{Control}
-use Rattle.moves.specs.declared.Model.{Model}
 use Rattle.tables.specs.Control.{writing}
 use Rattle.tables.specs.Said.{Read, length_of, put_in}
 use Rattle.listings.specs.Said.{answered, written}
 
 -- a smallest member; 256, which is no state, for the empty set
 abbrev pub number : Option ℕ → ℕ
-number none = 256
-number (some s) = s
-
--- a model of N states with the sets I and P
-pub record IsModel (N : ℕ) (I P : Set) (m : Model) : Type 0 where
-  pub size : m.size ≡ N
-  pub starts : m.starts.words ≡ I
-  pub safe : m.safe.words ≡ P
+number None = 256
+number (Some s) = s
 
 -- what a lent place holds after a refusal's number: the new words for 0, else what it held
 abbrev pub kept : {A : Type 0} → ℕ → A → A → A
@@ -76,25 +71,38 @@ outcome_words not_ended rules taken used = 0 ∷ 0 ∷ rules ∷ taken ∷ used 
 outcome_words (safe_with j) rules taken used = 1 ∷ j ∷ rules ∷ taken ∷ used ∷ []
 outcome_words (reached_with states) rules taken used = 2 ∷ states ∷ rules ∷ taken ∷ used ∷ []
 
-abbrev pub answer_words : RunAnswer → Answer (List ℕ)
-answer_words a = in_words (λ s. outcome_words s a.rules a.taken a.used) (said a.outcome)
+abbrev pub answer_words : Result RunAnswer Refusal → Answer (List ℕ)
+answer_words r = in_words (λ s. outcome_words s (rules_of r) (taken_of r) (used_of r)) (said r)
 
 -- what `runs::run` answers, in words
 pub record RunGiven (t : Table) (hints : List ℕ) (budget : ℕ) (b b' set set' walk walk' old new : List ℕ) (r : ℕ) : Type 0 where
-  pub run : RunAnswer
+  pub run : Result RunAnswer Refusal
   pub promised : RunPromise t hints budget b b' set set' walk walk' run
   pub answer : Gives (answer_words run) old new r
 
--- ---- what `tables::read` answers, in words
+-- ---- what `tables::read` answers, in words: the refusal's number, 0 for none, and the byte offset, 0 for none
+abbrev pub read_number : Result Reading Fault → ℕ
+read_number (Ok a) = no_refusal
+read_number (Err e) = number_of e.refusal
+
+abbrev pub read_offset : Result Reading Fault → ℕ
+read_offset (Ok a) = 0
+read_offset (Err e) = e.offset
+
+-- what a lent place holds after it: a part of what was read, else what it held
+abbrev pub read_into : {A : Type 0} → (Reading → A) → Result Reading Fault → A → A
+read_into part (Ok a) old = part a
+read_into part (Err e) old = old
+
 pub record ReadGiven (file rows rows' : List ℕ) (angles angles' : List ℤ) (modes modes' starts starts' safe safe' counts counts' : List ℕ)
     (offset' r : ℕ) : Type 0 where
-  pub reading : Reading
+  pub reading : Result Reading Fault
   pub promised : Read file rows angles modes reading rows' angles' modes'
-  pub answer : r ≡ reading.refusal
-  pub starts_are : starts' ≡ kept r reading.model.starts.words starts
-  pub safe_are : safe' ≡ kept r reading.model.safe.words safe
-  pub counts_are : counts' ≡ kept r (reading.model.size ∷ reading.moves ∷ []) counts
-  pub offset_is : offset' ≡ reading.offset
+  pub answer : r ≡ read_number reading
+  pub starts_are : starts' ≡ read_into (λ a. a.model.starts.words) reading starts
+  pub safe_are : safe' ≡ read_into (λ a. a.model.safe.words) reading safe
+  pub counts_are : counts' ≡ read_into (λ a. a.model.size ∷ a.moves ∷ []) reading counts
+  pub offset_is : offset' ≡ read_offset reading
 
 -- ---- a file's length
 pub record WriteGiven (c : Control) (out out' : List ℕ) (old new r : ℕ) : Type 0 where

@@ -7,58 +7,80 @@
 
 ghost use Rattle.std.specs.Prelude.{true, false, ◌≡◌};
 ghost use Rattle.answers.specs.Answer.{given};
+ghost use Rattle.answers.specs.Said.{said, refusal_of};
 ghost use Rattle.sets.specs.Sets.{count, smallest, full, size_refusal};
+ghost use Rattle.sets.specs.Said.{said_set};
 ghost use Rattle.turns.specs.Turn.{turn_of};
 ghost use Rattle.rules.specs.Table.{table, forward as f, backward as g};
-ghost use Rattle.moves.specs.Models.{control};
+ghost use Rattle.moves.specs.Models.{control, as_table};
 ghost use Rattle.moves.specs.Said.{move_refusal};
 ghost use Rattle.rules.specs.Second.{into as states_into};
 ghost use Rattle.runs.specs.Promises.{FreshPromise};
+ghost use Rattle.runs.specs.Said.{as_rule, as_outcome};
 ghost use Rattle.edits.specs.Promises.{into_refusal, g_refusal, SecondPromise, EditPromise};
 ghost use Rattle.checks.specs.Check.{check_listing};
-ghost use Rattle.sets.specs.Said.{said};
-ghost use Rattle.turns.specs.Said.{said as saidTurn};
-ghost use Rattle.runs.specs.Said.{as_rule, said_one};
-ghost use Rattle.tables.specs.Said.{said_written};
-ghost use Rattle.listings.specs.Said.{said as saidListed};
-ghost use Rattle.lampferret.specs.Boundary.{kept, number, in_words, rule_number, answer_words, Gives, SetGiven};
-ghost use Rattle.lampferret.specs.Boundary.{IsModel, SingleGiven, RunGiven, ReadGiven, WriteGiven, ListGiven};
+ghost use Rattle.lampferret.specs.Boundary.{number, rule_number, outcome_words, Gives, SetGiven};
+ghost use Rattle.lampferret.specs.Boundary.{SingleGiven, RunGiven, ReadGiven, WriteGiven, ListGiven};
 
-use listings::Listed;
-use moves::Model;
-use runs::{Asked, Outcome, Rule, RunAnswer};
-use sets::{Smallest, StateSet};
-use tables::Written;
-use turns::Turned;
+use answers::Refusal;
+use moves::{Control, Model, Table};
+use runs::{Outcome, Rule, RunAnswer};
+use sets::StateSet;
 
 // A set lent as four words.
 fn set_of(words: &[u64; 4]) -> StateSet
     ensures { result.words ≡ words.now }
 {
-    let w = *words;
-    StateSet { words: w }
+    StateSet { words: *words }
 }
 
-// A model whose sets are lent as four words each.
-fn model_of(size: u16, starts: &[u64; 4], safe: &[u64; 4]) -> Model
-    ensures { IsModel size starts.now safe.now result }
+// The four words of a set.
+fn words_of(set: StateSet) -> [u64; 4]
+    ensures { result ≡ set.words }
 {
-    Model {
+    set.words
+}
+
+// A table whose sets are lent as four words each.
+fn table_of<'a>(size: u16, starts: &[u64; 4], safe: &[u64; 4], moves: &'a [u64]) -> Table<'a>
+    ensures { as_table result ≡ table size starts.now safe.now moves.now }
+{
+    let model = Model {
         size,
         starts: set_of(starts),
         safe: set_of(safe),
+    };
+    Table { model, moves }
+}
+
+// What C is told of a call that answers no value: 0, or the refusal's number.
+fn told(a: Result<(), Refusal>) -> u8
+    ensures { result ≡ refusal_of a }
+{
+    match a {
+        Ok(()) => 0,
+        Err(refusal) => u8::from(refusal),
     }
 }
 
-// A set into four lent words, unless there is a refusal.
-fn give_set(refusal: u8, set: StateSet, words: &mut [u64; 4])
-    ensures { words.new ≡ kept refusal set.words words.old }
+// A value into a lent place, unless the call was refused; what C is told.
+fn give<T: Copy>(a: Result<T, Refusal>, place: &mut T) -> u8
+    ensures { Gives (said a) place.old place.new result }
 {
-    if refusal != answers::NO_REFUSAL {
-        return;
+    match a {
+        Ok(value) => {
+            *place = value;
+            0
+        }
+        Err(refusal) => u8::from(refusal),
     }
-    let w = set.words;
-    *words = w;
+}
+
+// The same of a set, into four lent words.
+fn give_set(a: Result<StateSet, Refusal>, words: &mut [u64; 4]) -> u8
+    ensures { Gives (said_set a) words.old words.new result }
+{
+    give(a.map(words_of), words)
 }
 
 // The full set of N states.
@@ -66,10 +88,7 @@ fn give_set(refusal: u8, set: StateSet, words: &mut [u64; 4])
 pub extern "C" fn lampferret_full(size: u16, set: &mut [u64; 4]) -> u8
     ensures { SetGiven (size_refusal size) (full size) set.old set.new result }
 {
-    let a = StateSet::full(size);
-    let refusal = a.refusal;
-    give_set(refusal, a.set, set);
-    refusal
+    give_set(StateSet::full(size), set)
 }
 
 // The number of members.
@@ -80,35 +99,12 @@ pub extern "C" fn lampferret_count(set: &[u64; 4]) -> u16
     set_of(set).count()
 }
 
-// A smallest member as a number; 256, which is no state, where there is none.
-fn member_number(s: Smallest) -> u16
-    ensures { result ≡ number (said s) }
-{
-    match s {
-        Smallest::Member(m) => m,
-        Smallest::Nothing => 256,
-    }
-}
-
 // The smallest member; 256 for the empty set.
 #[unsafe(no_mangle)]
 pub extern "C" fn lampferret_smallest(set: &[u64; 4]) -> u16
     ensures { result ≡ number (smallest set.now) }
 {
-    member_number(set_of(set).smallest())
-}
-
-// A turn into a lent place, unless it is a refusal.
-fn give_turn(a: Turned, turn: &mut i16) -> u8
-    ensures { Gives (saidTurn a) turn.old turn.new result }
-{
-    match a {
-        Turned::By(d) => {
-            *turn = d;
-            answers::NO_REFUSAL
-        }
-        Turned::Refused(k) => k,
-    }
+    set_of(set).smallest().unwrap_or(256)
 }
 
 // The turn from angle a to angle b, -180 to 180.
@@ -116,7 +112,7 @@ fn give_turn(a: Turned, turn: &mut i16) -> u8
 pub extern "C" fn lampferret_turn(a: i16, b: i16, turn: &mut i16) -> u8
     ensures { Gives (turn_of a b) turn.old turn.new result }
 {
-    give_turn(turns::turn(a, b), turn)
+    give(turns::turn(a, b), turn)
 }
 
 // f(x).
@@ -125,10 +121,7 @@ pub extern "C" fn lampferret_f(moves: &[u64], size: u16, x: &[u64; 4], res: &mut
     ensures { SetGiven (move_refusal size moves.now x.now) (f size moves.now x.now)
         res.old res.new result }
 {
-    let a = moves::f(moves, size, set_of(x));
-    let refusal = a.refusal;
-    give_set(refusal, a.set, res);
-    refusal
+    give_set(moves::f(moves, size, set_of(x)), res)
 }
 
 // g(x).
@@ -137,10 +130,7 @@ pub extern "C" fn lampferret_g(moves: &[u64], size: u16, x: &[u64; 4], res: &mut
     ensures { SetGiven (move_refusal size moves.now x.now) (g size moves.now x.now)
         res.old res.new result }
 {
-    let a = moves::g(moves, size, set_of(x));
-    let refusal = a.refusal;
-    give_set(refusal, a.set, res);
-    refusal
+    give_set(moves::g(moves, size, set_of(x)), res)
 }
 
 // The second table of a move table: row t holds the states with a move to t.
@@ -148,7 +138,7 @@ pub extern "C" fn lampferret_g(moves: &[u64], size: u16, x: &[u64; 4], res: &mut
 pub extern "C" fn lampferret_second(moves: &[u64], size: u16, second: &mut [u64]) -> u8
     ensures { SecondPromise size moves.now second.old second.new result }
 {
-    edits::make_second(moves, size, second)
+    told(edits::make_second(moves, size, second))
 }
 
 // The states with a move to a state.
@@ -163,10 +153,7 @@ pub extern "C" fn lampferret_into(
     ensures { SetGiven (into_refusal size moves.now second.now state) (states_into moves.now state)
         res.old res.new result }
 {
-    let a = edits::into(moves, second, size, state);
-    let refusal = a.refusal;
-    give_set(refusal, a.set, res);
-    refusal
+    give_set(edits::into(moves, second, size, state), res)
 }
 
 // A move added, in both tables.
@@ -180,7 +167,7 @@ pub extern "C" fn lampferret_add(
 ) -> u8
     ensures { EditPromise size moves.old moves.new second.old second.new from to true result }
 {
-    edits::add(moves, second, size, from, to)
+    told(edits::add(moves, second, size, from, to))
 }
 
 // A move removed, from both tables.
@@ -194,7 +181,7 @@ pub extern "C" fn lampferret_remove(
 ) -> u8
     ensures { EditPromise size moves.old moves.new second.old second.new from to false result }
 {
-    edits::remove(moves, second, size, from, to)
+    told(edits::remove(moves, second, size, from, to))
 }
 
 // g(x), worked out from the second table.
@@ -209,10 +196,7 @@ pub extern "C" fn lampferret_g_by_second(
     ensures { SetGiven (g_refusal size moves.now second.now x.now)
         (g size moves.now x.now) res.old res.new result }
 {
-    let a = edits::g_by_second(moves, second, size, set_of(x));
-    let refusal = a.refusal;
-    give_set(refusal, a.set, res);
-    refusal
+    give_set(edits::g_by_second(moves, second, size, set_of(x)), res)
 }
 
 // A fresh run buffer.
@@ -220,10 +204,11 @@ pub extern "C" fn lampferret_g_by_second(
 pub extern "C" fn lampferret_fresh(size: u16, run: &mut [u64]) -> u8
     ensures { FreshPromise size run.old run.new result }
 {
-    runs::fresh(size, run)
+    told(runs::fresh(size, run))
 }
 
 // The number of a rule in document 01.
+#[tactic(auto, unfolding(runs::specs::Said::as_rule, crate::specs::Boundary::rule_number))]
 fn rule_number(rule: Rule) -> u8
     ensures { result ≡ rule_number (as_rule rule) }
 {
@@ -232,19 +217,6 @@ fn rule_number(rule: Rule) -> u8
         Rule::Candidate => 3,
         Rule::Decide => 4,
         Rule::Conflict => 5,
-    }
-}
-
-// A rule's number into a lent place, unless it is a refusal.
-fn give_rule(a: Asked, rule: &mut u8) -> u8
-    ensures { Gives (in_words rule_number (said_one a)) rule.old rule.new result }
-{
-    match a {
-        Asked::Fired(fired) => {
-            *rule = rule_number(fired);
-            answers::NO_REFUSAL
-        }
-        Asked::Refused(k) => k,
     }
 }
 
@@ -262,33 +234,26 @@ pub extern "C" fn lampferret_single(
     ensures { SingleGiven (table size starts.now safe.now moves.now) proposal.now
         run.old run.new rule.old rule.new result }
 {
-    let model = model_of(size, starts, safe);
-    let a = runs::single(moves, model, run, set_of(proposal));
-    give_rule(a, rule)
+    let table = table_of(size, starts, safe, moves);
+    let a = runs::single(&table, run, set_of(proposal));
+    give(a.map(rule_number), rule)
 }
 
-// A run's answer into five lent words, unless it is a refusal.
-fn give_answer(a: RunAnswer, words: &mut [u64; 5]) -> u8
-    ensures { Gives (answer_words a) words.old words.new result }
+// A run's answer in five words.
+#[tactic(auto, unfolding(crate::specs::Boundary::outcome_words))]
+fn run_words(a: RunAnswer) -> [u64; 5]
+    ensures { result ≡ outcome_words (as_outcome a.outcome) a.rules a.taken a.used }
 {
-    let rules = a.rules;
-    let taken = a.taken;
-    let used = a.used;
-    let outcome = a.outcome;
+    let RunAnswer {
+        outcome,
+        rules,
+        taken,
+        used,
+    } = a;
     match outcome {
-        Outcome::Unfinished => {
-            *words = [0, 0, rules, taken, used];
-            answers::NO_REFUSAL
-        }
-        Outcome::Safe(j) => {
-            *words = [1, j as u64, rules, taken, used];
-            answers::NO_REFUSAL
-        }
-        Outcome::Reached(states) => {
-            *words = [2, states as u64, rules, taken, used];
-            answers::NO_REFUSAL
-        }
-        Outcome::Refused(k) => k,
+        Outcome::Unfinished => [0, 0, rules, taken, used],
+        Outcome::Safe(j) => [1, j as u64, rules, taken, used],
+        Outcome::Reached(states) => [2, states as u64, rules, taken, used],
     }
 }
 
@@ -312,9 +277,9 @@ pub extern "C" fn lampferret_run(
         run.old run.new set.old set.new walk.old walk.new
         answer.old answer.new result }
 {
-    let model = model_of(size, starts, safe);
-    let a = runs::run(moves, model, run, hints, budget, set, walk);
-    give_answer(a, answer)
+    let table = table_of(size, starts, safe, moves);
+    let a = runs::run(&table, run, hints, budget, set, walk);
+    give(a.map(run_words), answer)
 }
 
 // Reads a file into the move table, 256 angles and 256 modes. The places `starts` and `safe` get the sets, `counts` the
@@ -334,28 +299,21 @@ pub extern "C" fn lampferret_read(
         modes.old modes.new starts.old starts.new safe.old safe.new
         counts.old counts.new offset.new result }
 {
-    let a = tables::read(file, moves, angles, modes);
-    let refusal = a.refusal;
-    let model = a.model;
-    give_set(refusal, model.starts, starts);
-    give_set(refusal, model.safe, safe);
-    *offset = a.offset;
-    if refusal == answers::NO_REFUSAL {
-        *counts = [model.size, a.moves];
-    }
-    refusal
-}
-
-// A file's length into a lent place, unless it is a refusal.
-fn give_written(a: Written, length: &mut usize) -> u8
-    ensures { Gives (said_written a) length.old length.new result }
-{
-    match a {
-        Written::Length(bytes) => {
-            *length = bytes;
-            answers::NO_REFUSAL
+    match tables::read(file, moves, angles, modes) {
+        Ok(reading) => {
+            let model = reading.model;
+            let start_words = words_of(model.starts);
+            *starts = start_words;
+            let safe_words = words_of(model.safe);
+            *safe = safe_words;
+            *counts = [model.size, reading.moves];
+            *offset = 0;
+            0
         }
-        Written::Refused(k) => k,
+        Err(fault) => {
+            *offset = fault.offset;
+            u8::from(fault.refusal)
+        }
     }
 }
 
@@ -374,22 +332,13 @@ pub extern "C" fn lampferret_write(
     ensures { WriteGiven (control (table size starts.now safe.now moves.now)
         angles.now modes.now) out.old out.new length.old length.new result }
 {
-    let model = model_of(size, starts, safe);
-    let a = tables::write(moves, model, angles, modes, out);
-    give_written(a, length)
-}
-
-// A listing's length into a lent place, unless it is a refusal.
-fn give_listed(a: Listed, length: &mut usize) -> u8
-    ensures { Gives (saidListed a) length.old length.new result }
-{
-    match a {
-        Listed::Length(bytes) => {
-            *length = bytes;
-            answers::NO_REFUSAL
-        }
-        Listed::Refused(k) => k,
-    }
+    let table = table_of(size, starts, safe, moves);
+    let control = Control {
+        table,
+        angles,
+        modes,
+    };
+    give(tables::write(&control, out), length)
 }
 
 // The listing of a file, as the program `check` prints it; the place `length` gets its length.
@@ -398,5 +347,5 @@ pub extern "C" fn lampferret_check(file: &[u8], out: &mut [u8], length: &mut usi
     ensures { ListGiven (given (check_listing file.now)) out.old out.new
         length.old length.new result }
 {
-    give_listed(checks::check(file, out), length)
+    give(checks::check(file, out), length)
 }

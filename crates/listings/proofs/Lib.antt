@@ -1,5 +1,4 @@
 pub mod Text
-pub mod Puts
 pub mod Members
 pub mod Lists
 pub mod Refusals

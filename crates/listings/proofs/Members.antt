@@ -1,16 +1,17 @@
--- The members of a set, put one after another as a loop over the states goes.
-use Prim.Native.Nat.{ℕ, ◌+◌, ◌^◌, ◌≤◌, ◌<◌}
+-- The members of a set, appended one after another as a loop over the states goes.
+use Prim.Native.Nat.{ℕ, ◌+◌, ◌≤◌, ◌<◌}
 use native.Mathlib.Numerals.{add-one}
 use native.Mathlib.Omega.{arith}
 use mathlib.Core.Bool.{Bool, true, false}
 use mathlib.Core.Path.{◌≡◌, refl, sym, ◌∙◌}
 use mathlib.Core.List.{List, [], ◌∷◌, ◌++◌, map, map-append, append-nil}
-use lib.ListN.{length}
 use Rattle.sets.specs.Sets.{Set, member}
 use Rattle.listings.specs.Text.{appended, decimal, parted}
 use Rattle.listings.specs.Listing.{members_below}
-use Rattle.listings.specs.Inner.{Puts, gap}
-use Rattle.listings.proofs.Puts.{puts_none, puts_then, puts_length}
+use Rattle.listings.specs.Inner.{gap}
+use Rattle.outputs.specs.Appends.{Appends}
+use Rattle.outputs.specs.declared.Output.{Output}
+use Rattle.outputs.proofs.Puts.{appends_none, appends_then}
 use Rattle.listings.proofs.Text.{is_none, some_more, parted-more}
 
 -- the fields of the members below s
@@ -26,37 +27,34 @@ fields_out : (x : Set) (s : ℕ) → member x s ≡ false → fields x (s + 1) �
 unfolding members_below appended
 fields_out x s e = rw (add-one, e, append-nil)
 
--- the members below s are put, and whether the next is the first
-pub record Below (x : Set) (out : List ℕ) (at s : ℕ) (later : List ℕ) (next : ℕ) (first : Bool) : Type 0 where
+-- the members below s are appended, and whether the next is the first
+pub record Below (x : Set) (o : Output) (s : ℕ) (later : Output) (first : Bool) : Type 0 where
   pub few : s ≤ 256
   pub none : first ≡ is_none (map decimal (members_below s x))
-  pub puts : Puts out at (parted (map decimal (members_below s x))) later next
+  pub appends : Appends o (parted (map decimal (members_below s x))) later
 
-module _ (x : Set) (out : List ℕ) (at : ℕ) where
-  pub below_none : at < 2 ^ 64 → Below x out at 0 out at true
+module _ (x : Set) (o : Output) where
+  pub below_none : Below x o 0 o true
   unfolding parted members_below appended
-  below_none h = record { few = omega arith; none = refl; puts = puts_none out at h }
+  below_none = record { few = omega arith; none = refl; appends = appends_none o }
 
-  module _ (s next : ℕ) (later : List ℕ) (first : Bool) (b : Below x out at s later next first) where
+  module _ (s : ℕ) (later : Output) (first : Bool) (b : Below x o s later first) where
     -- r is whether s is a member
     pub below_in :
-        (r : Bool) (next' : ℕ) (later' : List ℕ) → r ≡ member x s → r ≡ true → s < 256
-        → Puts later next (gap first ++ decimal s) later' next' → length out < 2 ^ 64 → Below x out at (s + 1) later' next' false
-    below_in r next' later' e y lt p fits =
+        (r : Bool) (later' : Output) → r ≡ member x s → r ≡ true → s < 256 → Appends later (gap first ++ decimal s) later'
+        → Below x o (s + 1) later' false
+    below_in r later' e y lt p =
         let more = fields_in x s (sym e ∙ y) in
         record {
           few = omega arith;
           none = rw more (sym (some_more (fields x s) (decimal s)));
-          puts = rw (more, parted-more (fields x s) (decimal s), ← b.none) (puts_then fits b.puts p);
+          appends = rw (more, parted-more (fields x s) (decimal s), ← b.none) (appends_then b.appends p);
         }
 
-    pub below_out : (r : Bool) → r ≡ member x s → r ≡ false → s < 256 → Below x out at (s + 1) later next first
+    pub below_out : (r : Bool) → r ≡ member x s → r ≡ false → s < 256 → Below x o (s + 1) later first
     below_out r e y lt =
         let same = fields_out x s (sym e ∙ y) in
-        record { few = omega arith; none = rw same b.none; puts = rw same b.puts }
+        record { few = omega arith; none = rw same b.none; appends = rw same b.appends }
 
-    pub below_length : length later ≡ length out
-    below_length = puts_length b.puts
-
-    pub below_all : 256 ≤ s → Puts out at (parted (map decimal (members_below 256 x))) later next
-    below_all h = let e : s ≡ 256 = omega (arith, b.few) in rw e at b.puts
+    pub below_all : 256 ≤ s → Appends o (parted (map decimal (members_below 256 x))) later
+    below_all h = let e : s ≡ 256 = omega (arith, b.few) in rw e at b.appends

@@ -1,158 +1,130 @@
-// The lines of a listing, put into an output from a place on, as in put.rt. Private to the crate.
+// The lines of a listing, appended to an output. Private to the crate.
 ghost use Rattle.std.specs.Prelude.{◌<◌, ◌++◌, map, length};
-ghost use Rattle.moves.specs.Models.{on, control};
+ghost use Rattle.moves.specs.Models.{as_table, as_control};
 ghost use Rattle.listings.specs.Text.{appended, decimal, parted};
 ghost use Rattle.listings.specs.Listing.{refused_listing, model_line, safe_listing, safe_line, members_below, members_line};
 ghost use Rattle.listings.specs.Listing.{reached_listing, reached_line, state_line};
-ghost use Rattle.listings.specs.Inner.{Puts, gap};
+ghost use Rattle.listings.specs.Inner.{gap};
+ghost use Rattle.outputs.specs.Appends.{Appends};
 
 use crate::put;
 use crate::walk::{angle_at, mode_at, state_at, turn_at};
-use moves::Model;
+use moves::{Control, Model, Table};
+use outputs::Output;
 use sets::StateSet;
 
 // The one line of a refused file.
-pub fn refused_line(out: &mut [u8], at: usize, number: u8, offset: usize) -> usize
-    ensures { Puts out.old at (refused_listing number offset) out.new result }
+pub fn refused_line(out: &mut Output, number: u8, offset: usize)
+    ensures { Appends out.old (refused_listing number offset) out.new }
 {
-    let next = put::number(out, at, b"refused ", number as u64);
-    let next = put::text(out, next, b" at");
-    let next = put::number(out, next, b" ", offset as u64);
-    put::text(out, next, b"\n")
+    put::number(out, b"refused ", number);
+    out.text(b" at");
+    put::number(out, b" ", offset);
+    out.text(b"\n");
 }
 
 // Line 1.
-fn model_line(out: &mut [u8], at: usize, moves: &[u64], model: Model) -> usize
-    ensures { Puts out.old at (model_line (on model moves.now)) out.new result }
+fn model_line(out: &mut Output, table: &Table)
+    ensures { Appends out.old (model_line (as_table table.now)) out.new }
 {
-    let next = put::number(out, at, b"model ", model.size as u64);
-    let next = put::number(out, next, b" ", model.starts.count() as u64);
-    let next = put::number(out, next, b" ", model.safe.count() as u64);
-    let next = put::number(out, next, b" ", moves::count_moves(moves) as u64);
-    put::text(out, next, b"\n")
+    let Model { size, starts, safe } = table.model;
+    put::number(out, b"model ", size);
+    put::number(out, b" ", starts.count());
+    put::number(out, b" ", safe.count());
+    put::number(out, b" ", moves::count_moves(table.moves));
+    out.text(b"\n");
 }
 
 // Line 2 of a safe run.
-fn safe_line(out: &mut [u8], at: usize, j: usize, rules: u64, x: StateSet) -> usize
-    ensures { Puts out.old at (safe_line j rules x.words) out.new result }
+fn safe_line(out: &mut Output, j: usize, rules: u64, x: StateSet)
+    ensures { Appends out.old (safe_line j rules x.words) out.new }
 {
-    let next = put::number(out, at, b"safe ", j as u64);
-    let next = put::text(out, next, b" rules");
-    let next = put::number(out, next, b" ", rules);
-    let next = put::text(out, next, b" members");
-    let next = put::number(out, next, b" ", x.count() as u64);
-    put::text(out, next, b"\n")
+    put::number(out, b"safe ", j);
+    out.text(b" rules");
+    put::number(out, b" ", rules);
+    out.text(b" members");
+    put::number(out, b" ", x.count());
+    out.text(b"\n");
 }
 
 // A member, after a space unless it is the first.
-fn member(out: &mut [u8], at: usize, first: bool, s: u16) -> usize
-    ensures { Puts out.old at (gap first ++ decimal s) out.new result }
+fn member(out: &mut Output, first: bool, s: u16)
+    ensures { Appends out.old (gap first ++ decimal s) out.new }
 {
-    if first {
-        return put::digits(out, at, s as u64);
-    }
-    put::number(out, at, b" ", s as u64)
+    let space: &[u8] = if first { b"" } else { b" " };
+    put::number(out, space, s);
 }
 
 // The members of a set, parted by one space.
-fn members(out: &mut [u8], at: usize, x: StateSet) -> usize
-    ensures { Puts out.old at (parted (map decimal (members_below 256 x.words))) out.new result }
+fn members(out: &mut Output, x: StateSet)
+    ensures { Appends out.old (parted (map decimal (members_below 256 x.words))) out.new }
 {
-    let mut next = at;
     let mut first = true;
     for s in 0..256u16 {
         if x.member(s) {
-            next = member(out, next, first, s);
+            member(out, first, s);
             first = false;
         }
     }
-    next
 }
 
 // The last line of a safe run.
-fn members_line(out: &mut [u8], at: usize, x: StateSet) -> usize
-    ensures { Puts out.old at (members_line x.words) out.new result }
+fn members_line(out: &mut Output, x: StateSet)
+    ensures { Appends out.old (members_line x.words) out.new }
 {
-    let next = members(out, at, x);
-    put::byte(out, next, b'\n')
+    members(out, x);
+    out.byte(b'\n');
 }
 
 // The listing of a safe run.
-pub fn safe_run(
-    out: &mut [u8],
-    moves: &[u64],
-    model: Model,
-    j: usize,
-    rules: u64,
-    x: StateSet,
-) -> usize
-    ensures { Puts out.old 0 (safe_listing (on model moves.now) j rules x.words) out.new result }
+pub fn safe_run(out: &mut Output, table: &Table, j: usize, rules: u64, x: StateSet)
+    ensures { Appends out.old (safe_listing (as_table table.now) j rules x.words) out.new }
 {
-    let next = model_line(out, 0, moves, model);
-    let next = safe_line(out, next, j, rules, x);
-    members_line(out, next, x)
+    model_line(out, table);
+    safe_line(out, j, rules, x);
+    members_line(out, x);
 }
 
 // Line 2 of a reached run.
-fn reached_line(out: &mut [u8], at: usize, states: usize, rules: u64) -> usize
-    ensures { Puts out.old at (reached_line states rules) out.new result }
+fn reached_line(out: &mut Output, states: usize, rules: u64)
+    ensures { Appends out.old (reached_line states rules) out.new }
 {
-    let next = put::number(out, at, b"reached ", states as u64);
-    let next = put::text(out, next, b" rules");
-    let next = put::number(out, next, b" ", rules);
-    put::text(out, next, b"\n")
+    put::number(out, b"reached ", states);
+    out.text(b" rules");
+    put::number(out, b" ", rules);
+    out.text(b"\n");
 }
 
 // The line of state i of a walk.
-fn state_line(
-    out: &mut [u8],
-    at: usize,
-    walk: &[u16],
-    angles: &[i16],
-    modes: &[u8],
-    i: usize,
-) -> usize
+fn state_line(out: &mut Output, walk: &[u16], control: &Control, i: usize)
     requires { i < length walk.now }
-    ensures { Puts out.old at (state_line walk.now angles.now modes.now i) out.new result }
+    ensures { Appends out.old
+        (state_line walk.now control.now.angles.now control.now.modes.now i) out.new }
 {
-    let next = put::digits(out, at, (i + 1) as u64);
-    let next = put::number(out, next, b" ", state_at(walk, i) as u64);
-    let next = put::integer(out, next, b" ", angle_at(walk, angles, i));
-    let next = put::number(out, next, b" ", mode_at(walk, modes, i) as u64);
-    let next = put::integer(out, next, b" ", turn_at(walk, angles, i));
-    put::text(out, next, b"\n")
+    put::number(out, b"", i + 1);
+    put::number(out, b" ", state_at(walk, i));
+    put::number(out, b" ", angle_at(walk, control.angles, i));
+    put::number(out, b" ", mode_at(walk, control.modes, i));
+    put::number(out, b" ", turn_at(walk, control.angles, i));
+    out.text(b"\n");
 }
 
 // A line for each state of a walk.
-fn state_lines(out: &mut [u8], at: usize, walk: &[u16], angles: &[i16], modes: &[u8]) -> usize
-    ensures { Puts out.old at
-        (appended (length walk.now) (state_line walk.now angles.now modes.now))
-        out.new result }
+fn state_lines(out: &mut Output, walk: &[u16], control: &Control)
+    ensures { Appends out.old
+        (appended (length walk.now) (state_line walk.now control.now.angles.now control.now.modes.now))
+        out.new }
 {
-    let mut next = at;
-    let mut i = 0;
-    while i < walk.len() {
-        next = state_line(out, next, walk, angles, modes, i);
-        i += 1;
+    for i in 0..walk.len() {
+        state_line(out, walk, control, i);
     }
-    next
 }
 
 // The listing of a reached run.
-pub fn reached_run(
-    out: &mut [u8],
-    moves: &[u64],
-    model: Model,
-    angles: &[i16],
-    modes: &[u8],
-    rules: u64,
-    walk: &[u16],
-) -> usize
-    ensures { Puts out.old 0
-        (reached_listing (control (on model moves.now) angles.now modes.now) rules walk.now)
-        out.new result }
+pub fn reached_run(out: &mut Output, control: &Control, rules: u64, walk: &[u16])
+    ensures { Appends out.old (reached_listing (as_control control.now) rules walk.now) out.new }
 {
-    let next = model_line(out, 0, moves, model);
-    let next = reached_line(out, next, walk.len(), rules);
-    state_lines(out, next, walk, angles, modes)
+    model_line(out, &control.table);
+    reached_line(out, walk.len(), rules);
+    state_lines(out, walk, control);
 }

@@ -12,6 +12,7 @@ use lib.Bits.{bit_or, or_lt, or_zero_r}
 use lib.Dec.{ltb}
 use lib.Pow.{pow-lt}
 use lib.Seq.{sets}
+use mir.Val.{bool_byte}
 use Rattle.moves.specs.Wide.{forward256, backward256, ends_in}
 use Rattle.rules.specs.Table.{Table, row, leads, sound_row, sound_rows, sound_table, move_count, with_move, forward, backward}
 use Rattle.sets.proofs.Members.{member_of, set-ext, set-pad, member-empty, proper_of, proper_empty, proper_ext}
@@ -104,14 +105,18 @@ module _ (rows : List ℕ) (x : Set) (q m : ℕ) where
   pack-begins = record { in-range = omega arith; packed = pack-none _ }
 
   -- r is the row of the state, and b is 1 where it is within x, else 0
+  digit_says : (i : Bool) {b : ℕ} → b ≡ bool_byte i → ((b ≡ 1) × (i ≡ true)) ⊎ ((b ≡ 0) × (i ≡ false))
+  digit_says true e = inl (e, refl)
+  digit_says false e = inr (e, refl)
+
   pub pack-goes : {w k b at : ℕ} {r : Set} {i : Bool} → Packing rows x q m w k → k < m → k < 64 → at ≡ 4 * (q * 64 + k) → r ≡ quad rows at
-      → i ≡ within 256 r x → ((b ≡ 1) × (i ≡ true)) ⊎ ((b ≡ 0) × (i ≡ false))
+      → i ≡ within 256 r x → b ≡ bool_byte i
       → Packing rows x q m (bit_or w (b * 2 ^ k % 18446744073709551616)) (k + 1)
   pack-goes {w} {k} {b} {at} {r} {i} v l l' ea er ei h =
       let is : ends_in rows x (q * 64 + k) ≡ i = sym (ei ∙ ends_at rows x r at (q * 64 + k) ea er) in
       record {
         in-range = omega arith;
-        packed = pack-step k _ l' b (elim h [ inl y ↦ inl (y.0, is ∙ y.1) | inr y ↦ inr (y.0, is ∙ y.1) ]) w v.packed;
+        packed = pack-step k _ l' b (elim (digit_says i h) [ inl y ↦ inl (y.0, is ∙ y.1) | inr y ↦ inr (y.0, is ∙ y.1) ]) w v.packed;
       }
 
   -- the word is done where its count is

@@ -3,10 +3,11 @@ use Prim.Native.Nat.{ℕ}
 use mathlib.Core.Bool.{Bool}
 use mathlib.Core.List.{List}
 use mathlib.Core.Path.{◌≡◌}
+use Rattle.std.specs.Prelude.{Result}
+use Rattle.answers.specs.declared.Refusal.{Refusal}
 use Rattle.answers.proofs.Unique.{only}
 use Rattle.moves.specs.Said.{move_refusal}
 use Rattle.moves.specs.Wide.{forward256, backward256}
-use Rattle.sets.specs.declared.SetAnswer.{SetAnswer}
 use Rattle.rules.specs.Table.{Table, sound_table, sound_rows, move_count, with_move, forward, backward}
 use Rattle.sets.specs.Sets.{Set}
 use Rattle.sets.specs.declared.StateSet.{StateSet}
@@ -31,10 +32,10 @@ forward-once N rows x = only_set
 pub backward-once : (N : ℕ) (rows : List ℕ) (x : Set) {a b : StateSet} → a.words ≡ backward256 N rows x → b.words ≡ backward256 N rows x → a ≡ b
 backward-once N rows x = only_set
 
-pub f-once : (N : ℕ) (rows : List ℕ) (x : Set) {a b : SetAnswer} → Answers (move_refusal N rows x) (forward N rows x) a
+pub f-once : (N : ℕ) (rows : List ℕ) (x : Set) {a b : Result StateSet Refusal} → Answers (move_refusal N rows x) (forward N rows x) a
     → Answers (move_refusal N rows x) (forward N rows x) b → a ≡ b
 f-once N rows x = answers_once
 
-pub g-once : (N : ℕ) (rows : List ℕ) (x : Set) {a b : SetAnswer} → Answers (move_refusal N rows x) (backward N rows x) a
+pub g-once : (N : ℕ) (rows : List ℕ) (x : Set) {a b : Result StateSet Refusal} → Answers (move_refusal N rows x) (backward N rows x) a
     → Answers (move_refusal N rows x) (backward N rows x) b → a ≡ b
 g-once N rows x = answers_once

@@ -7,19 +7,52 @@
 ghost use Rattle.std.specs.Prelude.{◌≡◌, ◌-◌, ◌<◌, min};
 ghost use Rattle.sets.specs.Sets.{word_of};
 ghost use Rattle.rules.specs.Table.{sound_table, sound_rows, sound_row, move_count, with_move, forward as f, backward as g};
-ghost use Rattle.moves.specs.Models.{on};
+ghost use Rattle.moves.specs.Models.{as_table};
 ghost use Rattle.moves.specs.Wide.{forward256, backward256, ends_in};
+ghost use Rattle.answers.specs.Said.{refusal_of};
 ghost use Rattle.sets.specs.Said.{Answers};
 ghost use Rattle.moves.specs.Said.{move_refusal};
 
-use sets::{SetAnswer, StateSet};
+use answers::Refusal;
+use sets::StateSet;
 
 // A controller but for its moves: N, the starts I and the safe states P.
-#[derive(Clone, Copy)]
+#[derive(Clone, Copy, Debug, PartialEq, Eq)]
 pub struct Model {
     pub size: u16,
     pub starts: StateSet,
     pub safe: StateSet,
+}
+
+// A table as it is lent: the model, and a move table of 1,024 words.
+#[derive(Clone, Copy)]
+pub struct Table<'a> {
+    pub model: Model,
+    pub moves: &'a [u64],
+}
+
+// A control table as it is lent: a table, and an angle and a mode for each of 256 states.
+#[derive(Clone, Copy)]
+pub struct Control<'a> {
+    pub table: Table<'a>,
+    pub angles: &'a [i16],
+    pub modes: &'a [u8],
+}
+
+impl Table<'_> {
+    // Whether the table is sound: the starts, the safe states and all rows.
+    pub fn is_sound(&self) -> bool
+        ensures { result ≡ sound_table (as_table self.now) }
+    {
+        let model = self.model;
+        if !model.starts.sound(model.size) {
+            return false;
+        }
+        if !model.safe.sound(model.size) {
+            return false;
+        }
+        sound_rows(self.moves, model.size)
+    }
 }
 
 // Whether row s holds no number from N up, and nothing where s is from N up.
@@ -38,26 +71,7 @@ fn sound_row(moves: &[u64], size: u16, s: u16) -> bool
 pub fn sound_rows(moves: &[u64], size: u16) -> bool
     ensures { result ≡ sound_rows size moves.now }
 {
-    for s in 0..256 {
-        if !sound_row(moves, size, s) {
-            return false;
-        }
-    }
-    true
-}
-
-// Whether the table is sound: the starts, the safe states and all rows.
-pub fn sound_table(moves: &[u64], model: Model) -> bool
-    ensures { result ≡ sound_table (on model moves.now) }
-{
-    let size = model.size;
-    if !model.starts.sound(size) {
-        return false;
-    }
-    if !model.safe.sound(size) {
-        return false;
-    }
-    sound_rows(moves, size)
+    (0..256).all(|s| sound_row(moves, size, s))
 }
 
 // The number of moves.
@@ -102,11 +116,7 @@ pub fn forward(moves: &[u64], size: u16, x: StateSet) -> StateSet
 fn below(size: u16, from: u16) -> u16
     ensures { result ≡ min (size - from) 64 }
 {
-    if size <= from {
-        return 0;
-    }
-    let d = size - from;
-    if d < 64 { d } else { 64 }
+    size.saturating_sub(from).min(64)
 }
 
 // Word q of g, with no test.
@@ -119,8 +129,7 @@ fn backward_word(moves: &[u64], size: u16, q: u16, x: StateSet) -> u64
     let mut w: u64 = 0;
     for k in 0..m {
         let row = StateSet::read(moves, 4 * ((from + k) as usize));
-        let b: u64 = if row.within(x) { 1 } else { 0 };
-        w |= b << k;
+        w |= u64::from(row.within(x)) << k;
     }
     w
 }
@@ -139,48 +148,35 @@ pub fn backward(moves: &[u64], size: u16, x: StateSet) -> StateSet
     }
 }
 
-// The refusal of f and g: 7, 2, 13, or 0 for none.
+// Whether f and g are refused: 7, 2, 13.
 #[tactic(auto, using(crate::proofs::Refused::wrong_length))]
-fn refusal(moves: &[u64], size: u16, x: StateSet) -> u8
-    ensures { result ≡ move_refusal size moves.now x.words }
+fn test(moves: &[u64], size: u16, x: StateSet) -> Result<(), Refusal>
+    ensures { refusal_of result ≡ move_refusal size moves.now x.words }
 {
     if moves.len() != 1024 {
-        return answers::WRONG_LENGTH;
+        return Err(Refusal::WrongLength);
     }
     if !sets::in_range(size) {
-        return answers::OUT_OF_RANGE;
+        return Err(Refusal::OutOfRange);
     }
-    if !sound_rows(moves, size) {
-        return answers::NOT_SOUND;
+    if !sound_rows(moves, size) || !x.sound(size) {
+        return Err(Refusal::NotSound);
     }
-    if !x.sound(size) {
-        return answers::NOT_SOUND;
-    }
-    answers::NO_REFUSAL
+    Ok(())
 }
 
 // f(x): every state with a move into it from a member of x.
-pub fn f(moves: &[u64], size: u16, x: StateSet) -> SetAnswer
+pub fn f(moves: &[u64], size: u16, x: StateSet) -> Result<StateSet, Refusal>
     ensures { Answers (move_refusal size moves.now x.words) (f size moves.now x.words) result }
 {
-    let no = refusal(moves, size, x);
-    if no != answers::NO_REFUSAL {
-        let set = StateSet::EMPTY;
-        return SetAnswer { refusal: no, set };
-    }
-    let set = forward(moves, size, x);
-    SetAnswer { refusal: no, set }
+    test(moves, size, x)?;
+    Ok(forward(moves, size, x))
 }
 
 // g(x): every state all of whose moves end in x.
-pub fn g(moves: &[u64], size: u16, x: StateSet) -> SetAnswer
+pub fn g(moves: &[u64], size: u16, x: StateSet) -> Result<StateSet, Refusal>
     ensures { Answers (move_refusal size moves.now x.words) (g size moves.now x.words) result }
 {
-    let no = refusal(moves, size, x);
-    if no != answers::NO_REFUSAL {
-        let set = StateSet::EMPTY;
-        return SetAnswer { refusal: no, set };
-    }
-    let set = backward(moves, size, x);
-    SetAnswer { refusal: no, set }
+    test(moves, size, x)?;
+    Ok(backward(moves, size, x))
 }

@@ -45,14 +45,6 @@ true_held k j b h = go (leb-says k j)
     go (pass p) = h p
     go (fail p) = refl
 
-pub held-is : (k j : ℕ) (b : Bool) → k ≤ j → held k j b ≡ b
-unfolding held
-held-is k j b h = go (leb-says k j)
-  where
-    go : {c : Bool} → Says (k ≤ j) (j < k) c → (not c || b) ≡ b
-    go (pass p) = refl
-    go (fail p) = absurd (omega arith)
-
 pub leb-true : {m n : ℕ} → m ≤ n → leb m n ≡ true
 leb-true {m} {n} h = passes (leb-says m n) (λ l. omega arith)
 

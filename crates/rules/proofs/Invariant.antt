@@ -3,7 +3,7 @@ use Prim.Native.Nat.{ℕ, suc, ◌+◌, ◌≤◌, ◌<◌}
 use native.Mathlib.Omega.{arith}
 use mathlib.Core.Bool.{Bool, true, false}
 use mathlib.Core.Logic.{◌≢◌}
-use mathlib.Core.Option.{Option, none, some}
+use Rattle.std.specs.Prelude.{Option, None, Some}
 use mathlib.Core.Path.{◌≡◌, refl}
 use borrow.Author.Tests.{eq-eqb}
 use Rattle.rules.specs.Rules.{put, cut, concludes, closes, conclusion, conclusion_of, State, unfinished}
@@ -70,9 +70,9 @@ module _ (t : Table) where
 
   start-tested : (r : Option ℕ) (b : Bool) → concludes r b ≡ unfinished → b ≡ false
   unfolding concludes
-  start-tested (some j) b q = cc
-  start-tested none true q = cc
-  start-tested none false q = refl
+  start-tested (Some j) b q = cc
+  start-tested None true q = cc
+  start-tested None false q = refl
 
   pub open_start : (s : State) → Open s → s.k ≡ 1 → Within t.size t.starts (s.y 1)
   unfolding conclusion_of

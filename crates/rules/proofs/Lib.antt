@@ -12,7 +12,5 @@ pub mod Buffer
 pub mod Held
 pub mod Ready
 pub mod Reading
-pub mod Loops
-pub mod Chains
 pub mod Published
 pub mod Demands

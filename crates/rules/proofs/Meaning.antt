@@ -5,7 +5,7 @@ use native.Mathlib.Omega.{arith}
 use mathlib.Core.Bool.{Bool, true, false, not, ◌&&◌, false≢true}
 use mathlib.Core.List.{List}
 use mathlib.Core.Logic.{◌≢◌}
-use mathlib.Core.Option.{Option, none, some}
+use Rattle.std.specs.Prelude.{Option, None, Some}
 use mathlib.Core.Path.{◌≡◌, refl, ap}
 use lib.Dec.{eqb}
 use lib.ListN.{length}
@@ -51,15 +51,15 @@ module _ (t : Table) where
   never_no_room s e = go (least (s.n - 1) (closes t.size s)) _ e
     where
       go : (r : Option ℕ) (b : Bool) → concludes r b ≡ no_room → ⊥
-      go (some j) b q = let z : ◌≡◌ {A = ℕ} 0 1 = cc in omega arith
-      go none true q = let z : ◌≡◌ {A = ℕ} 0 1 = cc in omega arith
-      go none false q = let z : ◌≡◌ {A = ℕ} 0 1 = cc in omega arith
+      go (Some j) b q = let z : ◌≡◌ {A = ℕ} 0 1 = cc in omega arith
+      go None true q = let z : ◌≡◌ {A = ℕ} 0 1 = cc in omega arith
+      go None false q = let z : ◌≡◌ {A = ℕ} 0 1 = cc in omega arith
 
   concludes-reached : (r : Option ℕ) (b : Bool) → concludes r b ≡ reached → b ≡ true
   unfolding concludes
-  concludes-reached (some j) b q = cc
-  concludes-reached none true q = refl
-  concludes-reached none false q = cc
+  concludes-reached (Some j) b q = cc
+  concludes-reached None true q = refl
+  concludes-reached None false q = cc
 
   pub reached_at : (s : State) → conclusion t s ≡ reached → (s.k ≡ 1) × Beyond t.size t.starts (s.y 1)
   unfolding conclusion_of

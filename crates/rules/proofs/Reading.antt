@@ -8,7 +8,7 @@ use mathlib.Core.Path.{◌≡◌, refl, ap, ap₂, fun_ext}
 use borrow.Author.Tests.{lt-ltb, le-leb}
 use lib.Dec.{eqb, leb}
 use lib.ListN.{get_or}
-use Rattle.rules.specs.Buffer.{decode, held, parts, Normal}
+use Rattle.rules.specs.Buffer.{decode, Normal}
 use Rattle.rules.specs.Rules.{State, state, put, cut, closes, concludes, conclusion_of, separates, after_conflict}
 use Rattle.rules.specs.Table.{forward, backward}
 use Rattle.sets.proofs.Members.{proper_of}
@@ -52,10 +52,6 @@ module _ (N : ℕ) (big : N ≤ 256) where
     pub closes-256 : closes 256 s ≡ closes N s
     unfolding closes
     closes-256 = fun_ext (λ j. within-256 N big (s.x (suc j)) (s.x j) (m.proper_x (suc j)))
-
-    pub parts-256 : parts 256 s ≡ parts N s
-    unfolding parts
-    parts-256 = fun_ext (λ j. ap (λ c. held s.k j (not c)) (within-256 N big (s.x j) (s.y j) (m.proper_x j)))
 
     pub conclusion-256 : (I : Set) → Proper N I → conclusion_of 256 I s ≡ conclusion_of N I s
     unfolding conclusion_of

@@ -6,7 +6,7 @@ use mathlib.Core.Path.{◌≡◌, sym, ap, ◌∙◌}
 use lib.ListN.{length, get_or}
 use Rattle.rules.proofs.Buffer.{encode-length}
 use Rattle.rules.proofs.Held.{Fit}
-use Rattle.rules.specs.Buffer.{decode, encode, Normal}
+use Rattle.rules.specs.Buffer.{decode, encode}
 use Rattle.rules.specs.Table.{Table, sound_table, sound_rows}
 use Rattle.sets.proofs.Members.{proper_sound}
 use Rattle.sets.proofs.Tests.{and-true}
@@ -31,12 +31,6 @@ pub record Spans (b : List ℕ) : Type 0 where
 pub record Holds (b : List ℕ) : Type 0 where
   pub spans : Spans b
   pub same : encode (decode b) ≡ b
-
--- a sound table, and a buffer whose sets have no members from N up
-pub record Shaped (t : Table) (b : List ℕ) : Type 0 where
-  pub spans : Spans b
-  pub good : Good t
-  pub norm : Normal t.size (decode b)
 
 -- a sound table, and a buffer that passes the entry check
 pub record Ready (t : Table) (b : List ℕ) : Type 0 where
@@ -71,9 +65,6 @@ ready_by {t} {b} good fit =
       good = good;
       fit = fit;
     }
-
-pub ready_shaped : {t : Table} {b : List ℕ} → Ready t b → Shaped t b
-ready_shaped r = record { spans = r.spans; good = r.good; norm = r.fit.held.norm }
 
 pub ready_holds : {t : Table} {b : List ℕ} → Ready t b → Holds b
 ready_holds r = record { spans = r.spans; same = r.fit.held.same }

@@ -1,6 +1,6 @@
 -- The rules of the search (document 001): the state of a run, its conclusion, the rule due, what it allows, what it does.
 use Rattle.std.specs.Prelude.{ℕ, suc, ◌+◌, ◌-◌, Bool, true, false, not, ◌&&◌, cond, eqb, leb}
-use Rattle.std.proofs.Math.Option.{Option, none, some}
+use Rattle.std.specs.Prelude.{Option, None, Some}
 use Rattle.sets.specs.Search.{least}
 use Rattle.sets.specs.Sets.{Set, within, meet, full, empty}
 use Rattle.rules.specs.Table.{Table, f, g}
@@ -38,9 +38,9 @@ pub data Rule : Type 0 where
 
 -- safe at the j found; else reached, if so
 unfoldable pub concludes : Option ℕ → Bool → Standing
-concludes (some j) b = safe j
-concludes none true = reached
-concludes none false = unfinished
+concludes (Some j) b = safe j
+concludes None true = reached
+concludes None false = unfinished
 
 -- a fresh run of N states: n = k = 2, x_0 empty, x_1 full, no y
 unfoldable pub fresh_of : ℕ → State

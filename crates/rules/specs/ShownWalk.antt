@@ -1,6 +1,6 @@
 -- The walk that a reached run shows: by its y sets, the smallest start and each time the smallest next state.
 use Rattle.std.specs.Prelude.{ℕ, zero, suc, ◌-◌, not, ◌&&◌, List, [], ◌∷◌}
-use Rattle.std.proofs.Math.Option.{Option, none, some}
+use Rattle.std.specs.Prelude.{Option, None, Some}
 use Rattle.rules.specs.Rules.{State}
 use Rattle.rules.specs.Table.{Table, leads}
 use Rattle.sets.specs.Search.{least}
@@ -8,8 +8,8 @@ use Rattle.sets.specs.Sets.{Set, member}
 
 -- what was found, or 0
 unfoldable pub or_zero : Option ℕ → ℕ
-or_zero (some s) = s
-or_zero none = 0
+or_zero (Some s) = s
+or_zero None = 0
 
 module _ (t : Table) where
   -- the smallest start outside y

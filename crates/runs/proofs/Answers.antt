@@ -8,9 +8,15 @@ use mathlib.Core.Path.{◌≡◌, refl, sym, ap, ◌∙◌}
 use lib.Dec.{eqb}
 use lib.ListN.{length, get_or}
 use lib.Seq.{sets, length-sets, ext_get_or}
+use Rattle.std.specs.Prelude.{Result, Ok, Err, IsErr, IsErrAnd, OnOk}
 use Rattle.answers.proofs.Order.{refuses, goes_on}
+use Rattle.answers.proofs.Said.{some_number}
 use Rattle.answers.specs.Answer.{given, refused}
 use Rattle.answers.specs.Refusals.{not_allowed, already_concluded}
+use Rattle.answers.specs.Said.{number_of, refusal_of}
+use Rattle.answers.specs.declared.Refusal.{Refusal}
+use Rattle.answers.specs.declared.Refusal.TheVariants.{NotAllowed, AlreadyConcluded}
+use Rattle.entries.proofs.Entered.{enters}
 use Rattle.entries.specs.Refusal.{entry_refusal}
 use Rattle.rules.proofs.Budget.{run-standing, run-keeps}
 use Rattle.rules.proofs.Ends.{has_room}
@@ -28,40 +34,51 @@ use Rattle.rules.specs.ShownWalk.{shown_walk}
 use Rattle.rules.specs.Single.{takes, single}
 use Rattle.rules.specs.Table.{Table}
 use Rattle.runs.proofs.Choices.{hints_words}
-use Rattle.runs.proofs.Enums.{due-as, stands_as, stands_by, concluded, still_open}
+use Rattle.runs.proofs.Enums.{due-as, stands_by, concluded, still_open}
 use Rattle.runs.proofs.Steps.{lacks_none, fireable}
 use Rattle.runs.proofs.Stores.{get_or-sets_in}
 use Rattle.runs.proofs.Walks.{reached_short}
 use Rattle.runs.specs.Hints.{hints_at}
-use Rattle.runs.specs.Inner.{Stands, IsDue, Fireable, RanTo, Finished, refused_answer}
+use Rattle.runs.specs.Inner.{Stands, IsDue, Fireable, RanTo, Finished}
 use Rattle.runs.specs.Promises.{run_refusal, single_answer, single_buffer, lengths_ok, run_answer, ran, set_after, walk_after, SingleAnswered, Answered}
-use Rattle.runs.specs.Said.{standing_of, is_open, as_rule, as_standing}
-use Rattle.runs.specs.declared.Asked as asked
+use Rattle.runs.specs.Said.{is_open, as_rule, as_standing}
 use Rattle.runs.specs.declared.Outcome as outcome
 use Rattle.runs.specs.declared.Rule as code
 use Rattle.runs.specs.declared.RunAnswer as answer
 use Rattle.runs.specs.declared.Standing as standing
 use Rattle.runs.specs.declared.search.Ran.{Ran}
-use Rattle.sets.proofs.Tests.{passed, clash, and-true, eqb-says, not-true, not-false}
-use Rattle.sets.specs.Sets.{Set, quad, Words}
+use Rattle.sets.proofs.Tests.{passed, clash, and-true, eqb-says}
+use Rattle.sets.specs.Sets.{Set, Proper, quad, Words}
+
+-- what is lent is words, and the entry check says Ok
+pub entered_ready : (t : Table) (b : List ℕ) (r : Result (Unit {0}) Refusal) → Words b → Proper 256 t.starts → Proper 256 t.safe
+    → refusal_of r ≡ entry_refusal t b → OnOk r (Ready t b)
+entered_ready t b (Ok u) words is ps e = enters t b words is ps (sym e)
+entered_ready t b (Err x) words is ps e = tt
 
 -- ---- a single rule
-pub single-refused : (t : Table) (z : Set) (b : List ℕ) (n m : ℕ) → n ≡ m → (n ≡ 0 → ⊥) → SingleAnswered t z m b b (asked.TheVariants.Refused n)
+pub single-refused : (t : Table) (z : Set) (b : List ℕ) (m : ℕ) (e : Refusal) (r : Result code.Rule Refusal) → IsErr r × IsErrAnd r (λ e'. e' ≡ e)
+    → number_of e ≡ m → SingleAnswered t z m b b r
 unfolding single_answer single_buffer
-single-refused t z b zero m e h = absurd (h refl)
-single-refused t z b (suc n) m e h = record { answer = rw (← e); buffer = rw (← e) }
+single-refused t z b zero e r h q = absurd (some_number e q)
+single-refused t z b (suc n) e r h q = go r h.0 h.1
+  where
+    go : (r : Result code.Rule Refusal) → IsErr r → IsErrAnd r (λ e'. e' ≡ e) → SingleAnswered t z (suc n) b b r
+    go (Ok a) h is = absurd (clash h refl)
+    go (Err e') h is = record { answer = ap refused (ap number_of is ∙ q); buffer = refl }
 
 -- nothing was refused
-pub single-given : (t : Table) (z : Set) (b b' : List ℕ) (r : asked.Asked) (n m : ℕ) → n ≡ m → n ≡ 0 → SingleAnswered t z 0 b b' r → SingleAnswered t z m b b' r
-single-given t z b b' r n m e h a = rw (sym e ∙ h) a
+pub single-given : (t : Table) (z : Set) (b b' : List ℕ) (r : Result code.Rule Refusal) (m : ℕ) → 0 ≡ m
+    → SingleAnswered t z 0 b b' r → SingleAnswered t z m b b' r
+single-given t z b b' r m e a = rw (← e) a
 
 -- w is how the run stands, r what `is_open` answered
-module _ (t : Table) (z : Set) (b : List ℕ) (v : Ready t b) (w : standing.Standing) (ew : w ≡ standing_of (conclusion_of 256 t.starts (decode b)))
+module _ (t : Table) (z : Set) (b : List ℕ) (v : Ready t b) (w : standing.Standing) (ew : as_standing w ≡ conclusion_of 256 t.starts (decode b))
     (r : Bool) (e : r ≡ is_open w) where
   stands : Stands t b w
   stands = stands_by t b w v ew
 
-  pub ask_concluded : not r ≡ true → SingleAnswered t z 0 b b (asked.TheVariants.Refused 10)
+  pub ask_concluded : r ≡ false → SingleAnswered t z 0 b b (Err AlreadyConcluded)
   unfolding single_answer single_buffer single
   ask_concluded n = record { answer = rw done; buffer = rw done }
     where
@@ -74,11 +91,11 @@ module _ (t : Table) (z : Set) (b : List ℕ) (v : Ready t b) (w : standing.Stan
           go no_room q = rw (q, single)
           go unfinished q = absurd (concluded t b w stands r e n q)
 
-  module _ (n : not r ≡ false) (rule : code.Rule) (d : IsDue t b rule) where
+  module _ (n : r ≡ true) (rule : code.Rule) (d : IsDue t b rule) where
     open_now : Open t (decode b)
     open_now = still_open t b w stands r e n
 
-    pub ask_full : (q : Bool) (a : asked.Asked) → q ≡ lacks_room_for (as_rule rule) (get_or b 0 0) → q ≡ true → SingleAnswered t z 0 b b a
+    pub ask_full : (q : Bool) (a : Result code.Rule Refusal) → q ≡ lacks_room_for (as_rule rule) (get_or b 0 0) → q ≡ true → SingleAnswered t z 0 b b a
     ask_full q a eq y = absurd (clash y (lacks_none t b rule q v d open_now eq))
 
     pub fireable_now : (N : ℕ) → N ≡ t.size → Fireable N b rule
@@ -88,36 +105,34 @@ module _ (t : Table) (z : Set) (b : List ℕ) (v : Ready t b) (w : standing.Stan
     room_left = has_room t v.good.big (decode b) v.fit.inv open_now
 
     module _ (q : Bool) (eq : q ≡ takes t (decode b) z) where
-      pub ask_no : not q ≡ true → SingleAnswered t z 0 b b (asked.TheVariants.Refused 9)
+      pub ask_no : q ≡ false → SingleAnswered t z 0 b b (Err NotAllowed)
       unfolding single_answer single_buffer single
       ask_no y = record { answer = rw no; buffer = rw no }
         where
           no : single t (decode b) z ≡ refused not_allowed
-          no = rw (open_now, room_left, sym eq ∙ not-true q y, single)
+          no = rw (open_now, room_left, sym eq ∙ y, single)
 
-      pub ask_fires : (b' : List ℕ) → not q ≡ false → b' ≡ encode (fire t.size (as_rule rule) (decode b) z)
-          → SingleAnswered t z 0 b b' (asked.TheVariants.Fired rule)
+      pub ask_fires : (b' : List ℕ) → q ≡ true → b' ≡ encode (fire t.size (as_rule rule) (decode b) z)
+          → SingleAnswered t z 0 b b' (Ok rule)
       unfolding single_answer single_buffer single
       ask_fires b' y eb = record { answer = rw yes (ap given (sym (due-as t b rule d))); buffer = rw yes (rw (due-as t b rule d) eb) }
         where
           yes : single t (decode b) z ≡ given (record { rule = due t (decode b); state = fire t.size (due t (decode b)) (decode b) z })
-          yes = rw (open_now, room_left, sym eq ∙ not-false q y, single)
+          yes = rw (open_now, room_left, sym eq ∙ y, single)
 
 -- ---- the end of a run
 module _ (t : Table) (b : List ℕ) (w : standing.Standing) (v : Ready t b) (s : Stands t b w) where
   -- safe: x_j has its place
   pub safe_below : (j : ℕ) → w ≡ standing.TheVariants.Safe j → j + 1 < get_or b 0 0
-  unfolding decode as_standing
-  safe_below j e = omega (arith, (safe_at t (decode b) j (stands_as t b w s ∙ ap as_standing e)).lt)
+  unfolding decode
+  safe_below j e = omega (arith, (safe_at t (decode b) j (sym s ∙ ap as_standing e)).lt)
 
   -- reached: the walk has its place, and y_1 is held
   pub reached_few : w ≡ standing.TheVariants.Reached → get_or b 0 0 ≤ 257
-  unfolding as_standing
-  reached_few e = reached_short t v.good b v.fit (stands_as t b w s ∙ ap as_standing e)
+  reached_few e = reached_short t v.good b v.fit (sym s ∙ ap as_standing e)
 
   pub reached_held : w ≡ standing.TheVariants.Reached → get_or b 1 0 ≤ 1
-  unfolding as_standing
-  reached_held e = omega (arith, k_is b, (reached_at t (decode b) (stands_as t b w s ∙ ap as_standing e)).0)
+  reached_held e = omega (arith, k_is b, (reached_at t (decode b) (sym s ∙ ap as_standing e)).0)
 
 -- one arm for each way that the run stands
 module _ (t : Table) (b : List ℕ) (r : Ran) (set walk : List ℕ) (v : Ready t b) (s : Stands t b r.standing) where
@@ -126,9 +141,9 @@ module _ (t : Table) (b : List ℕ) (r : Ran) (set walk : List ℕ) (v : Ready t
 
   pub finish_safe : (j : ℕ) (x : Set) (set' : List ℕ) → r.standing ≡ standing.TheVariants.Safe j → x ≡ quad b (2 + 4 * j) → length x ≡ 4 → length set ≡ 4
       → set' ≡ sets set 0 x → Finished t b r (ans (outcome.TheVariants.Safe j)) set set' walk walk
-  unfolding run_answer set_after walk_after as_standing
+  unfolding run_answer set_after walk_after
   finish_safe j x set' e ex fx fs es =
-      let c : conclusion t (decode b) ≡ safe j = stands_as t b _ s ∙ ap as_standing e in
+      let c : conclusion t (decode b) ≡ safe j = sym s ∙ ap as_standing e in
       let q : set' ≡ (decode b).x j = es ∙ sets_all set x fs fx ∙ ex ∙ x_is b j _ refl (omega (arith, safe_below t b _ v s j e)) in
       record { outcome = rw c; fired = refl; took = refl; uses = refl; set_is = rw c q; walk_is = rw c }
     where
@@ -142,41 +157,49 @@ module _ (t : Table) (b : List ℕ) (r : Ran) (set walk : List ℕ) (v : Ready t
       → Finished t b r (ans (outcome.TheVariants.Reached (get_or b 0 0 - 1))) set set walk walk'
   unfolding run_answer set_after walk_after decode as_standing
   finish_reached walk' e q =
-      let c : conclusion t (decode b) ≡ reached = stands_as t b _ s ∙ ap as_standing e in
+      let c : conclusion t (decode b) ≡ reached = sym s ∙ ap as_standing e in
       record { outcome = rw c; fired = refl; took = refl; uses = refl; set_is = rw c; walk_is = rw c q }
 
   pub finish_open : r.standing ≡ standing.TheVariants.Unfinished → Finished t b r (ans outcome.TheVariants.Unfinished) set set walk walk
-  unfolding run_answer set_after walk_after as_standing
+  unfolding run_answer set_after walk_after
   finish_open e =
-      let c : conclusion t (decode b) ≡ unfinished = stands_as t b _ s ∙ ap as_standing e in
+      let c : conclusion t (decode b) ≡ unfinished = sym s ∙ ap as_standing e in
       record { outcome = rw c; fired = refl; took = refl; uses = refl; set_is = rw c; walk_is = rw c }
 
-  pub finish_never : (a : answer.RunAnswer) → r.standing ≡ standing.TheVariants.NoRoom → Finished t b r a set set walk walk
-  unfolding as_standing
-  finish_never a e = absurd (never_no_room t (decode b) (stands_as t b _ s ∙ ap as_standing e))
-
 -- ---- a run
-pub run-refused : (t : Table) (n m : ℕ) (o : runs.Ran) (b set walk : List ℕ) (a : answer.RunAnswer) → a ≡ refused_answer n → n ≡ m → (n ≡ 0 → ⊥)
-    → Answered t m o b b set set walk walk a
+pub run-refused : (t : Table) (m : ℕ) (o : runs.Ran) (b set walk : List ℕ) (e : Refusal) (r : Result answer.RunAnswer Refusal)
+    → IsErr r × IsErrAnd r (λ e'. e' ≡ e) → number_of e ≡ m → Answered t m o b b set set walk walk r
 unfolding run_answer ran set_after walk_after
-run-refused t zero m o b set walk a ea e h = absurd (h refl)
-run-refused t (suc n) m o b set walk a ea e h =
-    rw (ea, ← e) (record { outcome = refl; rules = refl; taken = refl; used = refl; buffer = refl; set_is = refl; walk_is = refl })
+run-refused t zero o b set walk e r h q = absurd (some_number e q)
+run-refused t (suc n) o b set walk e r h q = go r h.0 h.1
+  where
+    go : (r : Result answer.RunAnswer Refusal) → IsErr r → IsErrAnd r (λ e'. e' ≡ e) → Answered t (suc n) o b b set set walk walk r
+    go (Ok a) h is = absurd (clash h refl)
+    go (Err e') h is =
+        record {
+          outcome = ap refused (ap number_of is ∙ q);
+          rules = refl;
+          taken = refl;
+          used = refl;
+          buffer = refl;
+          set_is = refl;
+          walk_is = refl;
+        }
 
 -- nothing was refused
-pub run-given : (t : Table) (n m : ℕ) (o : runs.Ran) (b b' set set' walk walk' : List ℕ) (a : answer.RunAnswer) → n ≡ m → n ≡ 0
+pub run-given : (t : Table) (m : ℕ) (o : runs.Ran) (b b' set set' walk walk' : List ℕ) (a : Result answer.RunAnswer Refusal) → 0 ≡ m
     → Answered t 0 o b b' set set' walk walk' a → Answered t m o b b' set set' walk walk' a
-run-given t n m o b b' set set' walk walk' a e z p = rw (sym e ∙ z) p
+run-given t m o b b' set set' walk walk' a e p = rw (← e) p
 
 -- r is what `lengths` answered
 module _ (t : Table) (b hints set walk : List ℕ) (r : Bool) (e : r ≡ lengths_ok hints set walk) where
-  pub run-wrong : not r ≡ true → 7 ≡ run_refusal t hints b set walk
+  pub run-wrong : r ≡ false → 7 ≡ run_refusal t hints b set walk
   unfolding run_refusal
-  run-wrong n = refuses 7 _ _ r e n
+  run-wrong n = refuses 7 _ _ r e (ap not n)
 
-  pub run-right : not r ≡ false → (n : ℕ) → n ≡ entry_refusal t b → n ≡ run_refusal t hints b set walk
+  pub run-right : r ≡ true → (n : ℕ) → n ≡ entry_refusal t b → n ≡ run_refusal t hints b set walk
   unfolding run_refusal entry_refusal
-  run-right n m q = goes_on 7 _ _ r m e n q
+  run-right n m q = goes_on 7 _ _ r m e (ap not n) q
 
 -- the buffer that a run leaves
 module _ (t : Table) (b : List ℕ) (v : Ready t b) (budget : ℕ) (ws : List ℕ) (w : Words ws) (b' : List ℕ)
@@ -213,10 +236,10 @@ module _ (t : Table) (b : List ℕ) (v : Ready t b) (budget : ℕ) (ws : List �
   ended_ready = left-ready t b v budget ws w b' e.buffer
 
   pub ended_stands : Stands t b' r.standing
-  ended_stands = e.standing ∙ ap standing_of (left-standing t b v budget ws w b' e.buffer)
+  ended_stands = e.standing ∙ left-standing t b v budget ws w b' e.buffer
 
   pub run-answers : (set set' walk walk' : List ℕ) (a : answer.RunAnswer) → Finished t b' r a set set' walk walk'
-      → Answered t 0 (run t budget (hints_at ws 0) (decode b)) b b' set set' walk walk' a
+      → Answered t 0 (run t budget (hints_at ws 0) (decode b)) b b' set set' walk walk' (Ok a)
   run-answers set set' walk walk' a n =
       let p = left-standing t b v budget ws w b' e.buffer in
       let q = left_back t b v budget ws w b' e.buffer in

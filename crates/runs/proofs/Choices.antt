@@ -1,7 +1,7 @@
 -- The hints, the set that a rule is fired with, and whether a proposal is taken.
 use Prim.Native.Nat.{ℕ, zero, suc, ◌+◌, ◌-◌, ◌*◌, ◌≤◌, ◌<◌, ◌/◌}
 use native.Mathlib.Omega.{arith}
-use mathlib.Core.Bool.{Bool, true, false, not}
+use mathlib.Core.Bool.{Bool, true, false}
 use mathlib.Core.List.{List, [], ◌∷◌}
 use mathlib.Core.Path.{◌≡◌, sym, ap, ◌∙◌}
 use lib.ListN.{length}
@@ -17,7 +17,6 @@ use Rattle.runs.specs.Inner.{IsDue, IsHouse, Chose}
 use Rattle.runs.specs.Said.{as_rule}
 use Rattle.runs.specs.declared.Rule as code
 use Rattle.sets.proofs.Members.{proper_four}
-use Rattle.sets.proofs.Tests.{not-true, not-false}
 use Rattle.sets.specs.Sets.{Set, quad, Proper, Words as Words64}
 
 -- ---- hints
@@ -52,30 +51,30 @@ module _ (t : Table) (b : List ℕ) (rule : code.Rule) (d : IsDue t b rule) (r :
   asks-is : asks (due t (decode b)) ≡ r
   asks-is = ap asks (due-as t b rule d) ∙ sym e
 
-  pub takes-any : (z : Set) → not r ≡ true → true ≡ takes t (decode b) z
+  pub takes-any : (z : Set) → r ≡ false → true ≡ takes t (decode b) z
   unfolding takes
-  takes-any z n = rw (asks-is ∙ not-true r n)
+  takes-any z n = rw (asks-is ∙ n)
 
-  pub takes-is : (z : Set) (q : Bool) → not r ≡ false → q ≡ will_do t (decode b) z → q ≡ takes t (decode b) z
+  pub takes-is : (z : Set) (q : Bool) → r ≡ true → q ≡ will_do t (decode b) z → q ≡ takes t (decode b) z
   unfolding takes
-  takes-is z q n eq = eq ∙ rw (asks-is ∙ not-false r n)
+  takes-is z q n eq = eq ∙ rw (asks-is ∙ n)
 
   module _ (ws : List ℕ) (a : ℕ) (h : Set) (eh : IsHouse t b h) where
     -- the rule takes no hint; there is none
-    pub chose_calm : not r ≡ true → Chose t ws a b h 0 0
+    pub chose_calm : r ≡ false → Chose t ws a b h 0 0
     unfolding choose pick
-    chose_calm n = rw (asks-is ∙ not-true r n, ← eh, ← (hints_same ws a))
+    chose_calm n = rw (asks-is ∙ n, ← eh, ← (hints_same ws a))
 
-    pub chose_dry : not r ≡ false → length ws / 4 ≤ a → Chose t ws a b h 0 0
+    pub chose_dry : r ≡ true → length ws / 4 ≤ a → Chose t ws a b h 0 0
     unfolding choose pick
-    chose_dry n l = rw (asks-is ∙ not-false r n, ← eh, ← (hints_same ws a), hints_none ws a l)
+    chose_dry n l = rw (asks-is ∙ n, ← eh, ← (hints_same ws a), hints_none ws a l)
 
     -- the hint z will do, or not
-    module _ (n : not r ≡ false) (l : a < length ws / 4) (z : Set) (ez : z ≡ quad ws (4 * a)) (q : Bool) (eq : q ≡ will_do t (decode b) z) where
+    module _ (n : r ≡ true) (l : a < length ws / 4) (z : Set) (ez : z ≡ quad ws (4 * a)) (q : Bool) (eq : q ≡ will_do t (decode b) z) where
       pub chose_hint : q ≡ true → Chose t ws a b z 1 1
       unfolding choose pick offered
-      chose_hint y = rw (asks-is ∙ not-false r n, hints_more ws a l, ← ez, sym eq ∙ y)
+      chose_hint y = rw (asks-is ∙ n, hints_more ws a l, ← ez, sym eq ∙ y)
 
       pub chose_house : q ≡ false → Chose t ws a b h 1 0
       unfolding choose pick offered
-      chose_house y = rw (asks-is ∙ not-false r n, hints_more ws a l, ← ez, sym eq ∙ y, ← eh)
+      chose_house y = rw (asks-is ∙ n, hints_more ws a l, ← ez, sym eq ∙ y, ← eh)

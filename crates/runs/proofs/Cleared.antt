@@ -1,25 +1,28 @@
 -- A fresh run buffer: zeros, then the words of the fresh state.
-use Prim.Native.Nat.{ℕ, zero, suc, ◌+◌, ◌≤◌, ◌<◌}
+use Prim.Native.Nat.{ℕ, zero, suc, ◌<◌}
 use native.Mathlib.Omega.{arith}
-use mathlib.Core.Bool.{Bool, true, false, not}
 use mathlib.Core.List.{List}
-use mathlib.Core.Logic.{inl, inr, ◌≢◌}
+use mathlib.Core.Logic.{◌≢◌}
 use mathlib.Core.Path.{◌≡◌, refl, sym, ap, ◌∙◌}
-use borrow.Author.Tests.{ne_eqb}
-use Rattle.answers.proofs.Order.{refuses, goes_on, refuses_other, goes_on_same, accepts}
-use lib.ListN.{length, get_or, set, length-set}
-use lib.Seq.{sets, ext_get_or, get_or-set_same, get_or-set_other}
+use borrow.Author.Tests.{eq-eqb, ne_eqb}
+use Rattle.std.specs.Prelude.{Ok, Err}
+use Rattle.answers.proofs.Order.{refuses_other}
+use Rattle.answers.proofs.Values.{no_value}
+use Rattle.answers.specs.Answer.{given, refused, unless_refused}
+use Rattle.answers.specs.Refusals.{first_failing}
+use Rattle.answers.specs.Said.{number_of}
+use Rattle.answers.specs.declared.Refusal.{Refusal}
+use lib.ListN.{length, get_or, set, replicate, length-replicate, get_or-replicate}
+use lib.Seq.{sets, ext_get_or}
 use Rattle.rules.proofs.Buffer.{at_x, at_y, encode-n, encode-k, encode-length}
 use Rattle.rules.specs.Buffer.{encode}
 use Rattle.rules.specs.Rules.{put, fresh_of}
 use Rattle.runs.proofs.Stores.{set-n, set-k, place, put-x, Place, first, second, in_x, in_y}
 use Rattle.runs.specs.Promises.{fresh_refusal, FreshPromise}
 use Rattle.runs.specs.Inner.{nothing}
-use Rattle.sets.proofs.Range.{range_high_by, full-set}
-use Rattle.sets.specs.Said.{IsFull}
-use Rattle.sets.specs.declared.SetAnswer.{SetAnswer}
-use Rattle.sets.proofs.Tests.{same_or}
-use Rattle.sets.specs.Sets.{Set, empty, full, in_range}
+use Rattle.sets.specs.Said.{Answers}
+use Rattle.sets.specs.Sets.{Set, empty, full, size_refusal}
+use Rattle.sets.specs.declared.StateSet.{StateSet}
 
 no_word : (q : ℕ) → get_or empty q 0 ≡ 0
 unfolding empty
@@ -38,28 +41,8 @@ nothing_is b len h = ext_get_or 0 b (encode nothing) (len ∙ sym (encode-length
     at i (in_x a c w la lc e) = at_x nothing a c i la lc e ∙ no_word c
     at i (in_y a c w la lc e) = at_y nothing a c i la lc e ∙ no_word c
 
--- the loop of `clear`: every word below j is 0
-pub record Clearing (buf : List ℕ) (j : ℕ) : Type 0 where
-  pub in-range : j ≤ 2066
-  pub long : length buf ≡ 2066
-  pub zeros : (i : ℕ) → i < j → get_or buf i 0 ≡ 0
-
-zero_more : (b : List ℕ) (j : ℕ) → j < length b → ((i : ℕ) → i < j → get_or b i 0 ≡ 0) → (i : ℕ) → i < j + 1 → get_or (set b j 0) i 0 ≡ 0
-zero_more b j l h i m =
-    elim (same_or i j) [
-      | inl q ↦ rw q (get_or-set_same b j 0 0 l)
-      | inr n ↦ get_or-set_other b j i 0 0 n ∙ h i (omega (arith, n))
-    ]
-
-pub clear_begins : (b : List ℕ) → length b ≡ 2066 → Clearing b 0
-clear_begins b e = record { in-range = omega arith; long = e; zeros = λ i l. absurd (omega arith) }
-
-pub clear_goes : (b : List ℕ) (j : ℕ) → Clearing b j → j < 2066 → Clearing (set b j 0) (j + 1)
-clear_goes b j v l =
-    record { in-range = omega arith; long = length-set b j 0 ∙ v.long; zeros = zero_more b j (omega (arith, v.long)) v.zeros }
-
-pub clear_ends : (b : List ℕ) (j : ℕ) → Clearing b j → 2066 ≤ j → b ≡ encode nothing
-clear_ends b j v l = nothing_is b v.long (λ i h. v.zeros i (omega arith))
+pub zeros : encode nothing ≡ replicate 2066 0
+zeros = sym (nothing_is (replicate 2066 0) (length-replicate {A = ℕ} 2066 0) (λ i l. get_or-replicate {A = ℕ} 2066 i 0 0 l))
 
 fresh-is : (N : ℕ) (b1 b2 b3 b4 : List ℕ) (v : Set) → length v ≡ 4 → v ≡ full N → b1 ≡ encode nothing → b2 ≡ sets b1 6 v → b3 ≡ set b2 0 2 → b4 ≡ set b3 1 2
     → b4 ≡ encode (fresh_of N)
@@ -69,7 +52,18 @@ fresh-is N b1 b2 b3 b4 v four ev e1 e2 e3 e4 =
     (e3 ∙ ap (λ (c : List ℕ). set c 0 2) (e2 ∙ ap (λ (c : List ℕ). sets c 6 v) e1 ∙ put-x nothing 1 v four (omega arith)) ∙ set-n _ _) ∙ set-k _ _
     ∙ ap (λ (w : Set). encode (record { n = 2; k = 2; x = put (λ j. empty) 1 w; y = λ j. empty })) ev
 
--- ---- the three returns of `fresh`; q is what `in_range` answered, r what `full` did
+-- what `full` answered
+said-err : (n m : ℕ) (a : Set) → refused m ≡ unless_refused n a → (m ≡ n) × (n ≢ 0)
+unfolding unless_refused
+said-err zero m a e = no_value e
+said-err (suc n) m a e = let q : m ≡ suc n = cc in (q, λ z. omega arith)
+
+said-ok : (n : ℕ) (a w : Set) → given w ≡ unless_refused n a → (0 ≡ n) × (w ≡ a)
+unfolding unless_refused
+said-ok zero a w e = (refl, cc)
+said-ok (suc n) a w e = no_value (sym e)
+
+-- ---- the three returns of `fresh`
 module _ (N : ℕ) (b : List ℕ) where
   fresh-refused : (n : ℕ) → n ≡ fresh_refusal N b → n ≢ 0 → FreshPromise N b b n
   fresh-refused n e h = record { answer = e; buffer = rw (← e, ne_eqb n 0 h) }
@@ -78,18 +72,21 @@ module _ (N : ℕ) (b : List ℕ) where
   unfolding fresh_refusal
   fresh-7 h = fresh-refused 7 (refuses_other _ _ _ _ h) (λ e. omega arith)
 
-  module _ (len : length b ≡ 2066) (q : Bool) (e : q ≡ in_range N) where
-    pub fresh-2 : not q ≡ true → FreshPromise N b b 2
-    unfolding fresh_refusal
-    fresh-2 h = fresh-refused 2 (goes_on_same _ _ _ _ _ len (refuses _ _ _ q e h)) (λ e. omega arith)
+  module _ (len : length b ≡ 2066) where
+    -- what is left to test is N
+    range-left : fresh_refusal N b ≡ size_refusal N
+    unfolding fresh_refusal first_failing size_refusal
+    range-left = rw (eq-eqb (length b) 2066 len)
 
-    pub fresh-0 : not q ≡ false → (r : SetAnswer) → IsFull N r → length r.set.words ≡ 4 → (b1 b2 : List ℕ) → b1 ≡ encode nothing
-        → b2 ≡ sets b1 6 r.set.words → FreshPromise N b (set (set b2 0 2) 1 2) 0
-    unfolding fresh_refusal
-    fresh-0 h r f four b1 b2 e1 e2 =
-        let taken : 0 ≡ fresh_refusal N b = goes_on_same _ _ _ _ _ len (goes_on _ _ _ q _ e h accepts) in
-        let Full-is = full-set N r f (range_high_by N q e h) in
+    pub fresh-err : (e : Refusal) → Answers (size_refusal N) (full N) (Err e) → FreshPromise N b b (number_of e)
+    fresh-err e a = let (q, h) = said-err _ _ _ a.answer in fresh-refused _ (q ∙ sym range-left) (λ z. h (sym q ∙ z))
+
+    pub fresh-ok : (v : StateSet) → Answers (size_refusal N) (full N) (Ok v) → length v.words ≡ 4 → (b1 b2 : List ℕ)
+        → b1 ≡ replicate (length b) 0 → b2 ≡ sets b1 6 v.words → FreshPromise N b (set (set b2 0 2) 1 2) 0
+    fresh-ok v a four b1 b2 e1 e2 =
+        let (z, ev) = said-ok _ _ _ a.answer in
+        let taken : 0 ≡ fresh_refusal N b = z ∙ sym range-left in
         record {
           answer = taken;
-          buffer = rw (← taken) (fresh-is N b1 b2 (set b2 0 2) (set (set b2 0 2) 1 2) r.set.words four Full-is e1 e2 refl refl);
+          buffer = rw (← taken) (fresh-is N b1 b2 _ _ v.words four ev (e1 ∙ ap (λ n. replicate n 0) len ∙ sym zeros) e2 refl refl);
         }

@@ -11,7 +11,7 @@ use Rattle.rules.proofs.Keep.{chain}
 use Rattle.rules.proofs.Reading.{x_is, n_is, k_is, closes-256}
 use Rattle.rules.proofs.Ready.{Spans, Ready}
 use Rattle.rules.specs.Buffer.{decode, Normal}
-use Rattle.rules.specs.Rules.{State, closes, fire, after_unfold, after_conflict}
+use Rattle.rules.specs.Rules.{State, state, closes, fire, after_unfold, after_conflict}
 use Rattle.rules.specs.Table.{Table}
 use Rattle.runs.specs.Inner.{Fireable, Closing, Looks, Parted, Climbs, Untouched}
 use Rattle.runs.specs.Said.{as_rule}
@@ -132,35 +132,32 @@ module _ (N : ℕ) (b : List ℕ) (rule : code.Rule) (z : Set) (f : Fireable N b
         end = omega (arith, n_is b);
       })
 
-  pub closing_candidate : rule ≡ code.TheVariants.Candidate → Closing N (fire N (as_rule rule) (decode b) z) 0 0
-  unfolding fire as_rule closes
-  closing_candidate e =
-      rw e
-      (record {
+  -- Candidate and Decide change no x
+  still : (k : ℕ) (y : ℕ → Set) → Closing N (state (decode b).n k (decode b).x y) 0 0
+  unfolding closes
+  still k y =
+      record {
         low = λ j l. absurd (omega arith);
         high = λ j l m. parts N f.big (decode b) z p j m;
         rise = omega arith;
         end = omega (arith, n_is b, f.holds.spans.two);
-      })
+      }
+
+  pub closing_candidate : rule ≡ code.TheVariants.Candidate → Closing N (fire N (as_rule rule) (decode b) z) 0 0
+  unfolding fire as_rule
+  closing_candidate e = rw e (still _ _)
 
   pub closing_decide : rule ≡ code.TheVariants.Decide → Closing N (fire N (as_rule rule) (decode b) z) 0 0
-  unfolding fire as_rule closes
-  closing_decide e =
-      rw e
-      (record {
-        low = λ j l. absurd (omega arith);
-        high = λ j l m. parts N f.big (decode b) z p j m;
-        rise = omega arith;
-        end = omega (arith, n_is b, f.holds.spans.two);
-      })
+  unfolding fire as_rule
+  closing_decide e = rw e (still _ _)
 
   module _ (e : rule ≡ code.TheVariants.Conflict) (m : ℕ) (u : Untouched (decode b) z m) where
     held : (decode b).k < (decode b).n
     held = omega (arith, f.held e, n_is b, k_is b)
 
-    from_place : (a : ℕ) → a ≡ m - 1 → Closing N (fire N (as_rule rule) (decode b) z) a (get_or b 1 0)
+    pub closing_conflict : (a : ℕ) → a ≡ m - 1 → Closing N (fire N (as_rule rule) (decode b) z) a (get_or b 1 0)
     unfolding fire as_rule
-    from_place a q =
+    closing_conflict a q =
         rw e
         (record {
           low = λ j l. below_conflict N f.big (decode b) z p f.norm held m u j (omega arith);
@@ -168,12 +165,6 @@ module _ (N : ℕ) (b : List ℕ) (rule : code.Rule) (z : Set) (f : Fireable N b
           rise = omega (arith, u.le, k_is b);
           end = omega (arith, held, k_is b);
         })
-
-    pub closing_conflict : 0 < m → Closing N (fire N (as_rule rule) (decode b) z) (m - 1) (get_or b 1 0)
-    closing_conflict l = from_place (m - 1) refl
-
-    pub closing_low : m ≤ 0 → Closing N (fire N (as_rule rule) (decode b) z) 0 (get_or b 1 0)
-    closing_low l = from_place 0 (omega arith)
 
 -- ---- which x Conflict leaves as they are
 meet-kept : (x z : Set) → Proper 256 x → Within 256 x z → meet 256 x z ≡ x
@@ -196,6 +187,3 @@ untouched_by b z x r c v ex e y =
       at = λ j l. meet-kept _ z (c.proper j)
           (within-trans 256 (c.up j (get_or b 1 0 - 1) (omega arith) (omega (arith, n_is b, v.pos, v.le))) (is_within 256 _ z inside));
     }
-
-pub untouched_none : (s : State) (z : Set) → Untouched s z 0
-untouched_none s z = record { le = omega arith; at = λ j l. absurd (omega arith) }

@@ -10,7 +10,9 @@ use borrow.Author.Tests.{eq-eqb}
 use lib.Dec.{eqb}
 use lib.ListN.{length, get_or, drop, take, length-take, length-drop, get_or-eq_default}
 use lib.Seq.{sets, drop_at, get_or-drop, sets-eq, length-sets}
+use Rattle.std.specs.Prelude.{Result}
 use Rattle.answers.specs.Answer.{refused, given}
+use Rattle.answers.specs.declared.Refusal.{Refusal}
 use Rattle.rules.proofs.Budget.{run-standing}
 use Rattle.rules.proofs.Buffer.{at_x, at_y, encode-n, encode-k, encode-length}
 use Rattle.rules.proofs.Demands.{demand_2, demand_3}
@@ -36,7 +38,7 @@ use Rattle.runs.proofs.Walks.{reached_short}
 use Rattle.runs.specs.Demands.{SaysSafe, SaysReached, Ends, Lent, RunDemand2, RunDemand3, SameVerdict}
 use Rattle.runs.specs.Hints.{hints_at}
 use Rattle.runs.specs.Promises.{run_refusal, lengths_ok, run_answer, ran, set_after, walk_after, RunPromise}
-use Rattle.runs.specs.Said.{said, safe_with, reached_with, not_ended}
+use Rattle.runs.specs.Said.{said, safe_with, reached_with, not_ended, rules_of, taken_of, used_of}
 use Rattle.runs.specs.declared.RunAnswer.{RunAnswer}
 use Rattle.sets.proofs.Members.{proper_length, proper_word, proper_up}
 use Rattle.sets.proofs.Range.{range_says}
@@ -45,7 +47,6 @@ use Rattle.sets.proofs.Words.{take-sets}
 use Rattle.sets.specs.Sets.{Set, quad, Words}
 use Rattle.rules.specs.Runs as runs
 use Rattle.rules.specs.Demands as rules
-use Rattle.runs.specs.declared.RunAnswer as answer
 
 -- ---- what is said, taken apart
 says_safe : (r : Standing) (s : State) (j : ℕ) → run_answer 0 r s ≡ given (safe_with j) → r ≡ safe j
@@ -194,12 +195,12 @@ module _ (t : Table) (hints b set walk : List ℕ) (l : Lent t hints b set walk)
   unfolding run_refusal first_failing
   not_refused = rw (l.lengths, eq-eqb (length b) 2066 l.long, eq-eqb (length t.rows) 1024 l.rows, l.range, l.sound, l.entry)
 
-  module _ (budget : ℕ) (b' set' walk' : List ℕ) (r : answer.RunAnswer) (p : RunPromise t hints budget b b' set set' walk walk' r) where
+  module _ (budget : ℕ) (b' set' walk' : List ℕ) (r : Result RunAnswer Refusal) (p : RunPromise t hints budget b b' set set' walk walk' r) where
     abbrev o : runs.Ran
     o = run t budget (hints_at hints 0) (decode b)
 
     -- the promise of a run that is not refused
-    pub told : said r.outcome ≡ run_answer 0 o.standing o.state
+    pub told : said r ≡ run_answer 0 o.standing o.state
     told = rw not_refused at p.outcome
 
     result_is_conclusion : o.standing ≡ conclusion t o.state
@@ -208,13 +209,13 @@ module _ (t : Table) (hints b set walk : List ℕ) (l : Lent t hints b set walk)
     was_run : ran 0 o.standing ≡ true
     was_run = rw result_is_conclusion (ran-all t o.state)
 
-    pub fired : r.rules ≡ o.rules
+    pub fired : rules_of r ≡ o.rules
     fired = rw (not_refused, was_run) at p.rules
 
-    pub took : r.taken ≡ o.taken
+    pub took : taken_of r ≡ o.taken
     took = rw (not_refused, was_run) at p.taken
 
-    pub uses : r.used ≡ o.used
+    pub uses : used_of r ≡ o.used
     uses = rw (not_refused, was_run) at p.used
 
     pub left-buffer : b' ≡ encode o.state
@@ -226,7 +227,7 @@ module _ (t : Table) (hints b set walk : List ℕ) (l : Lent t hints b set walk)
     pub left-hints : o.left ≡ hints_at hints o.taken
     left-hints = run-left t big hints budget (hints_at hints 0) (decode b) fit.inv 0 refl ∙ ap (λ a. hints_at hints a) (zero-add o.taken)
 
-    safe_at_j : (j : ℕ) → said r.outcome ≡ given (safe_with j) → o.standing ≡ safe j
+    safe_at_j : (j : ℕ) → said r ≡ given (safe_with j) → o.standing ≡ safe j
     safe_at_j j e = says_safe o.standing o.state j (sym told ∙ e)
 
     reached_in : (m : ℕ) → SaysReached r m → (o.standing ≡ reached) × (m ≡ o.state.n - 1)
@@ -236,7 +237,7 @@ module _ (t : Table) (hints b set walk : List ℕ) (l : Lent t hints b set walk)
     unfolding run_answer
     ends_of e = go o.standing e told
       where
-        go : (c : Standing) → rules.Ended c → said r.outcome ≡ run_answer 0 c o.state → Ends r
+        go : (c : Standing) → rules.Ended c → said r ≡ run_answer 0 c o.state → Ends r
         go c (rules.ended_safe j) q = inl (j, q)
         go c rules.ended_reached q = inr (o.state.n - 1, q)
 
@@ -278,13 +279,13 @@ module _ (t : Table) (hints b set walk : List ℕ) (l : Lent t hints b set walk)
     three = demand_3 t big (decode b) passes budget (hints_at hints 0) set' walked set-written walked-is
 
     -- how the run says that it stands
-    open_in : said r.outcome ≡ given not_ended → o.standing ≡ unfinished
+    open_in : said r ≡ given not_ended → o.standing ≡ unfinished
     open_in e = says_open o.standing o.state (sym told ∙ e)
 
     stands_as : {c : Standing} → o.standing ≡ c → BySlide t (decode b') c
     stands_as e = rw left-state (rw e at two.stands)
 
-    in_open : o.standing ≡ unfinished → said r.outcome ≡ given not_ended
+    in_open : o.standing ≡ unfinished → said r ≡ given not_ended
     unfolding run_answer
     in_open e = rw e at told
 
@@ -363,7 +364,7 @@ module _ (t : Table) (hints b set walk : List ℕ) (l : Lent t hints b set walk)
 
 -- ---- two runs on one table
 module _ (t : Table) (hints hints' b c set set' walk walk' : List ℕ) (l : Lent t hints b set walk) (l' : Lent t hints' c set' walk') (budget budget' : ℕ)
-    (b₁ s₁ w₁ c₁ s₂ w₂ : List ℕ) (r r' : answer.RunAnswer)
+    (b₁ s₁ w₁ c₁ s₂ w₂ : List ℕ) (r r' : Result RunAnswer Refusal)
     (p : RunPromise t hints budget b b₁ set s₁ walk w₁ r) (p' : RunPromise t hints' budget' c c₁ set' s₂ walk' w₂ r') where
   d2 : RunDemand2 t hints budget b b₁ s₁ w₁ r
   d2 = run-demand_2 t hints b set walk l budget b₁ s₁ w₁ r p

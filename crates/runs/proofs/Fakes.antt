@@ -6,7 +6,10 @@ use mathlib.Core.Logic.{◌⊎◌, inl, inr}
 use mathlib.Core.Path.{◌≡◌, refl, sym, ap, ◌∙◌}
 use lib.ListN.{get_or}
 use Rattle.answers.proofs.Values.{no_value}
+use Rattle.std.specs.Prelude.{Result, Ok, Err}
 use Rattle.answers.specs.Answer.{given}
+use Rattle.answers.specs.Said.{number_of}
+use Rattle.answers.specs.declared.Refusal.{Refusal}
 use Rattle.rules.proofs.Ends.{weight}
 use Rattle.rules.proofs.Published.{lighter}
 use Rattle.rules.specs.Buffer.{decode}
@@ -16,25 +19,25 @@ use Rattle.rules.specs.Walks.{LeadsToBad, RealWalk, arrived, onward}
 use Rattle.runs.proofs.Demands.{big, fit}
 use Rattle.runs.specs.Demands.{Refuses, Ends, RunDemand2}
 use Rattle.runs.specs.Fakes.{Fakes, StoredWalk}
-use Rattle.runs.specs.Said.{not_ended, said}
+use Rattle.runs.specs.Said.{not_ended, said, as_outcome}
 use Rattle.runs.specs.declared.Outcome as outcome
 use Rattle.runs.specs.declared.RunAnswer.{RunAnswer}
 
-not_refused : (r : RunAnswer) → Refuses r → Ends r → ⊥
+not_refused : (r : Result RunAnswer Refusal) → Refuses r → Ends r → ⊥
 not_refused r (k, e) (inl (j, q)) = no_value (sym e ∙ q)
 not_refused r (k, e) (inr (m, q)) = no_value (sym e ∙ q)
 
 -- the four things that a run can say
-says : (r : RunAnswer) → Refuses r ⊎ (Ends r ⊎ (said r.outcome ≡ given not_ended))
-says r = go r.outcome refl
+says : (r : Result RunAnswer Refusal) → Refuses r ⊎ (Ends r ⊎ (said r ≡ given not_ended))
+says (Err e) = inl (number_of e, refl)
+says (Ok a) = go a.outcome refl
   where
-    go : (o : outcome.Outcome) → r.outcome ≡ o → Refuses r ⊎ (Ends r ⊎ (said r.outcome ≡ given not_ended))
-    go (outcome.TheVariants.Safe j) e = inr (inl (inl (j, ap said e)))
-    go (outcome.TheVariants.Reached m) e = inr (inl (inr (m, ap said e)))
-    go outcome.TheVariants.Unfinished e = inr (inr (ap said e))
-    go (outcome.TheVariants.Refused k) e = inl (k, ap said e)
+    go : (o : outcome.Outcome) → a.outcome ≡ o → Refuses (Ok a) ⊎ (Ends (Ok a) ⊎ (said (Ok a) ≡ given not_ended))
+    go (outcome.TheVariants.Safe j) e = inr (inl (inl (j, ap (λ o. given (as_outcome o)) e)))
+    go (outcome.TheVariants.Reached m) e = inr (inl (inr (m, ap (λ o. given (as_outcome o)) e)))
+    go outcome.TheVariants.Unfinished e = inr (inr (ap (λ o. given (as_outcome o)) e))
 
-module _ (t : Table) (hints : List ℕ) (budget : ℕ) (b b' set set' walk walk' : List ℕ) (r : RunAnswer) where
+module _ (t : Table) (hints : List ℕ) (budget : ℕ) (b b' set set' walk walk' : List ℕ) (r : Result RunAnswer Refusal) where
   -- a verdict needs a conclusive state
   ends_conclusive : Ends r → RunDemand2 t hints budget b b' set' walk' r → Conclusive t (decode b')
   ends_conclusive (inl (j, e)) d = let c = (d.safe_there j e).conclusive in inl (record { j = j; below = c.below; is = c.is })

@@ -6,7 +6,9 @@ use mathlib.Core.List.{List}
 use mathlib.Core.Path.{◌≡◌, refl, sym}
 use borrow.Author.Tests.{eq-eqb}
 use lib.ListN.{length}
+use Rattle.std.specs.Prelude.{Result}
 use Rattle.answers.proofs.Order.{none_failing}
+use Rattle.answers.specs.declared.Refusal.{Refusal}
 use Rattle.entries.proofs.Entered.{entered}
 use Rattle.entries.specs.Refusal.{entry_refusal}
 use Rattle.rules.proofs.Buffer.{encode-length}
@@ -65,7 +67,8 @@ module _ (t : Table) (hints b set walk : List ℕ) where
       }
 
   -- an answer that is no refusal comes of no refusal
-  module _ (budget : ℕ) (b' set' walk' : List ℕ) (r : RunAnswer) (p : RunPromise t hints budget b b' set set' walk walk' r) (k : Known t hints b r) where
+  module _ (budget : ℕ) (b' set' walk' : List ℕ) (r : Result RunAnswer Refusal)
+      (p : RunPromise t hints budget b b' set set' walk walk' r) (k : Known t hints b r) where
     none_refused : run_refusal t hints b set walk ≡ 0
     unfolding run_answer
     none_refused = go (run_refusal t hints b set walk) refl p

@@ -2,7 +2,7 @@ pub mod Enums
 pub mod Tested
 pub mod Closing
 pub mod Stores
-pub mod Memo
+pub mod Kept
 pub mod Walks
 pub mod Cleared
 pub mod Choices

@@ -2,7 +2,7 @@
 use Prim.Native.Nat.{ℕ, suc, ◌+◌, ◌-◌, ◌≤◌, ◌<◌}
 use native.Mathlib.Nat.{zero-add, add_assoc, add-zero}
 use native.Mathlib.Omega.{arith}
-use mathlib.Core.Bool.{Bool, true, false, not}
+use mathlib.Core.Bool.{Bool, true, false}
 use mathlib.Core.List.{List}
 use mathlib.Core.Logic.{◌≢◌}
 use mathlib.Core.Path.{◌≡◌, sym, ap, ◌∙◌}
@@ -13,20 +13,19 @@ use Rattle.rules.specs.Buffer.{decode}
 use Rattle.rules.specs.Rules.{conclusion, conclusion_of, unfinished}
 use Rattle.rules.specs.Runs as runs
 use Rattle.rules.specs.Runs.{stop, after, choose, next, run, lacks_room_for, Choice}
-use lib.ListN.{get_or, replicate}
+use lib.ListN.{get_or}
 use Rattle.runs.proofs.Enums.{stands_by, concluded, still_open}
 use Rattle.runs.specs.declared.Rule as code
 use Rattle.sets.proofs.Tests.{clash}
 use Rattle.rules.specs.Table.{Table}
 use Rattle.runs.proofs.Choices.{hints_words}
 use Rattle.runs.proofs.Closing.{looks_all, looks_next}
-use Rattle.runs.proofs.Memo.{remembers_none}
 use Rattle.runs.proofs.Steps.{step_ready, step_back, step_few, room, lacks_none}
 use Rattle.runs.specs.Hints.{hints_at}
-use Rattle.runs.specs.Inner.{Stands, IsDue, Remembers, Looks, Stepped, RanTo}
-use Rattle.runs.specs.Said.{standing_of, is_open, as_rule}
+use Rattle.runs.specs.Inner.{Stands, IsDue, Blank, Remembers, Looks, Stepped, RanTo}
+use Rattle.runs.specs.Said.{as_standing, is_open, as_rule}
 use Rattle.runs.specs.declared.Standing.{Standing}
-use Rattle.runs.specs.declared.search.Ran.{Ran}
+use Rattle.runs.specs.declared.memo.Memo.{Memo}
 use Rattle.sets.specs.Sets.{Words}
 
 -- a run that has fired f rules already, taken a and used u hints
@@ -93,28 +92,28 @@ module _ (t : Table) (ws : List ℕ) (budget : ℕ) (o : runs.Ran) (b : List ℕ
           ∙ (λ i. ahead (f + 1) (a + p.took i) (u + p.uses i) (run t (budget - (f + 1)) (p.left i) (q i)))
 
   -- the budget is spent, or the run has concluded: w is how it stands, r what `is_open` answered
-  module _ (w : Standing) (ew : w ≡ standing_of (conclusion_of 256 t.starts (decode b))) where
+  module _ (w : Standing) (ew : as_standing w ≡ conclusion_of 256 t.starts (decode b)) where
     stands : Stands t b w
     stands = stands_by t b w v.ready ew
 
     pub end_spent : f ≡ budget → RanTo o b (record { standing = w; rules = f; taken = a; used = u })
     end_spent l = run-spent l w stands
 
-    pub end_concluded : (r : Bool) → r ≡ is_open w → not r ≡ true → RanTo o b (record { standing = w; rules = f; taken = a; used = u })
+    pub end_concluded : (r : Bool) → r ≡ is_open w → r ≡ false → RanTo o b (record { standing = w; rules = f; taken = a; used = u })
     end_concluded r e n = run-concluded (concluded t b w stands r e n) w stands
 
 -- the loop of `advance`: a run, its memo, and where it can have concluded
-pub record Going (t : Table) (ws : List ℕ) (budget : ℕ) (o : runs.Ran) (buf memo : List ℕ) (f a u lo hi : ℕ) : Type 0 where
+pub record Going (t : Table) (ws : List ℕ) (budget : ℕ) (o : runs.Ran) (buf : List ℕ) (memo : Memo) (f a u lo hi : ℕ) : Type 0 where
   pub running : Running t ws budget o buf f a u
   -- what g was asked for
-  pub kept : Remembers t.size t.rows memo
+  pub kept : Remembers t memo
   -- only from lo up to hi can it have concluded safe
   pub looks : Looks buf lo hi
 
-pub going : (t : Table) (ws : List ℕ) (budget : ℕ) (b : List ℕ) (hi : ℕ) → Ready t b → hi ≡ get_or b 0 0 - 1
-    → Going t ws budget (run t budget (hints_at ws 0) (decode b)) b (replicate 2064 0) 0 0 0 0 hi
-going t ws budget b hi v e =
-    record { running = run-begins t ws budget b v; kept = remembers_none t.size t.rows; looks = looks_all b hi v.spans e }
+pub going : (t : Table) (ws : List ℕ) (budget : ℕ) (b : List ℕ) (m : Memo) (hi : ℕ) → Ready t b → Blank m → hi ≡ get_or b 0 0 - 1
+    → Going t ws budget (run t budget (hints_at ws 0) (decode b)) b m 0 0 0 0 hi
+going t ws budget b m hi v none e =
+    record { running = run-begins t ws budget b v; kept = none t; looks = looks_all b hi v.spans e }
 
 -- a turn in which a rule is fired: neither is so
 pub record Turning (t : Table) (ws : List ℕ) (budget : ℕ) (o : runs.Ran) (buf : List ℕ) (f a u : ℕ) : Type 0 where
@@ -124,17 +123,17 @@ pub record Turning (t : Table) (ws : List ℕ) (budget : ℕ) (o : runs.Ran) (bu
   pub place : get_or buf 0 0 < 258
 
 module _ {t : Table} {ws : List ℕ} {budget : ℕ} {o : runs.Ran} {b : List ℕ} {f a u : ℕ} where
-  pub turning : Running t ws budget o b f a u → {w : Standing} → w ≡ standing_of (conclusion_of 256 t.starts (decode b)) → (f ≡ budget → ⊥)
-      → {r : Bool} → r ≡ is_open w → not r ≡ false → Turning t ws budget o b f a u
-  turning v {w} ew m {r} e n =
+  pub turning : Running t ws budget o b f a u → (w : Standing) → as_standing w ≡ conclusion_of 256 t.starts (decode b) → (f ≡ budget → ⊥)
+      → {r : Bool} → r ≡ is_open w → r ≡ true → Turning t ws budget o b f a u
+  turning v w ew m {r} e n =
       let op = still_open t b w (stands_by t b w v.ready ew) r e n in
       record { running = v; more = omega (arith, v.in_budget, m); opened = op; place = room t b v.ready op }
 
   pub never_full : Turning t ws budget o b f a u → {rule : code.Rule} → IsDue t b rule → {q : Bool} → q ≡ lacks_room_for (as_rule rule) (get_or b 0 0)
-      → q ≡ true → {x : Ran} {b' : List ℕ} → RanTo o b' x
-  never_full v {rule} d {q} e y = absurd (clash y (lacks_none t b rule q v.running.ready d v.opened e))
+      → q ≡ true → ⊥
+  never_full v {rule} d {q} e y = clash y (lacks_none t b rule q v.running.ready d v.opened e)
 
-  pub goes_on : Turning t ws budget o b f a u → Words ws → {b' m : List ℕ} {taken used lo hi : ℕ} → Remembers t.size t.rows m
+  pub goes_on : Turning t ws budget o b f a u → Words ws → {b' : List ℕ} {m : Memo} {taken used lo hi : ℕ} → Remembers t m
       → Stepped t ws a b b' taken used lo hi → Going t ws budget o b' m (f + 1) (a + taken) (u + used) lo hi
   goes_on v words {b'} {m} {taken} {used} {lo} {hi} k p =
       let on = run-goes t ws budget o b f a u v.running words v.opened (λ e. omega (arith, v.more)) b' taken used lo hi p in

@@ -3,8 +3,10 @@ use Prim.Native.Nat.{ℕ, zero, suc, ◌≤◌}
 use mathlib.Core.Bool.{Bool, true, false, not, ◌&&◌, ◌||◌}
 use mathlib.Core.List.{List}
 use mathlib.Core.Path.{◌≡◌, refl, sym, ap, ◌∙◌}
+use Rattle.std.specs.Prelude.{Result}
 use Rattle.answers.proofs.Values.{no_value}
 use Rattle.answers.specs.Answer.{Answer, refused, given}
+use Rattle.answers.specs.declared.Refusal.{Refusal}
 use Rattle.entries.proofs.Entered.{enters}
 use Rattle.rules.proofs.Held.{held_back, kept-accepts}
 use Rattle.rules.proofs.Invariant.{Invariant}
@@ -20,7 +22,7 @@ use Rattle.rules.specs.Table.{Table}
 use Rattle.runs.specs.Demands.{SingleDemand}
 use Rattle.runs.specs.Promises.{single_answer, single_buffer, SinglePromise}
 use Rattle.runs.specs.Said.{said_one}
-use Rattle.runs.specs.declared.Asked.{Asked}
+use Rattle.runs.specs.declared.Rule as code
 use Rattle.sets.proofs.Members.{proper_sound, proper_empty}
 use Rattle.sets.proofs.Tests.{and-true}
 use Rattle.sets.specs.Sets.{Set, empty, sound, Proper, Words}
@@ -84,7 +86,7 @@ module _ (t : Table) where
     after-normal Conflict d e = fire-normal t big Conflict s z v m d (proper_sound t.size big z own (and-true (sound t.size z) _ e).0)
 
 -- a single rule that was fired, of a table and a set in words
-pub single-demand : (t : Table) (z : Set) (b b' : List ℕ) (r : Asked) (rule : Rule) → Words b → Proper 256 t.starts → Proper 256 t.safe
+pub single-demand : (t : Table) (z : Set) (b b' : List ℕ) (r : Result code.Rule Refusal) (rule : Rule) → Words b → Proper 256 t.starts → Proper 256 t.safe
     → Proper 256 z → SinglePromise t z b b' r → said_one r ≡ given rule → SingleDemand t z b b' rule
 unfolding single_buffer
 single-demand t z b b' r rule words is ps own p e =

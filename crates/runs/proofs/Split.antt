@@ -9,6 +9,8 @@ use mathlib.Core.Path.{◌≡◌, refl, sym, ap, ◌∙◌, ap₂}
 use borrow.Author.Tests.{eq-eqb}
 use lib.ListN.{length, drop, length-drop}
 use lib.Seq.{get_or-drop}
+use Rattle.std.specs.Prelude.{Result}
+use Rattle.answers.specs.declared.Refusal.{Refusal}
 use Rattle.rules.proofs.Budget.{run-standing, budget}
 use Rattle.rules.proofs.Demands.{fresh-inv}
 use Rattle.rules.proofs.Ends.{opened, run-done}
@@ -22,14 +24,13 @@ use Rattle.rules.specs.ShownWalk.{shown_walk}
 use Rattle.rules.specs.Table.{Table}
 use Rattle.runs.proofs.Demands.{set_twice, walk_twice, big, fit, told, fired, took, uses, left-buffer, left-state, left-hints, walk_room}
 use Rattle.runs.proofs.Demands.{set-left, walk_left, set_four, walk_256, lent_again}
-use Rattle.runs.proofs.Unique.{outcome_one}
 use Rattle.runs.specs.Demands.{Lent, SplitAnswer, SplitBudget}
 use Rattle.runs.specs.Hints.{hints_from, hints_at}
 use Rattle.runs.specs.Promises.{fresh_refusal, run_answer, set_after, walk_after, RunPromise, FreshPromise}
+use Rattle.runs.specs.Said.{taken_of}
 use Rattle.runs.specs.declared.RunAnswer.{RunAnswer}
 use Rattle.sets.specs.Sets.{quad}
 use Rattle.rules.specs.Runs as runs
-use Rattle.runs.specs.declared.RunAnswer as answer
 
 -- ---- the hints that remain
 quad-drop : (ws : List ℕ) (k i : ℕ) → quad (drop k ws) i ≡ quad ws (k + i)
@@ -77,14 +78,14 @@ walk_over t o o' l l₁ (inl e) h q = ap (walk_after t 0 o'.standing o'.state) (
 walk_over t o o' l l₁ (inr e) h q = rw (e, q) (sym (walk_twice t o.standing o.state l h))
 
 -- ---- a first run of n rules, and what m more do
-module _ (t : Table) (hints b set walk : List ℕ) (n m : ℕ) (b₁ s₁ w₁ : List ℕ) (r₁ : answer.RunAnswer)
+module _ (t : Table) (hints b set walk : List ℕ) (n m : ℕ) (b₁ s₁ w₁ : List ℕ) (r₁ : Result RunAnswer Refusal)
     (l₁ : Lent t hints b set walk) (p₁ : RunPromise t hints n b b₁ set s₁ walk w₁ r₁) where
   o₁ : runs.Ran
   o₁ = run t n (hints_at hints 0) (decode b)
 
   -- the hints that remain, and what m rules more do with them
   abbrev rest : List ℕ
-  rest = drop (4 * r₁.taken) hints
+  rest = drop (4 * taken_of r₁) hints
 
   o₂ : runs.Ran
   o₂ = run t m (hints_at rest 0) (decode b₁)
@@ -95,7 +96,7 @@ module _ (t : Table) (hints b set walk : List ℕ) (n m : ℕ) (b₁ s₁ w₁ :
   inv : Invariant t (decode b)
   inv = (fit t hints b set walk l₁).inv
 
-  taken₁ : r₁.taken ≡ o₁.taken
+  taken₁ : taken_of r₁ ≡ o₁.taken
   unfolding o₁
   taken₁ = took t hints b set walk l₁ n b₁ s₁ w₁ r₁ p₁
 
@@ -103,7 +104,7 @@ module _ (t : Table) (hints b set walk : List ℕ) (n m : ℕ) (b₁ s₁ w₁ :
   second : o₂ ≡ run t m o₁.left o₁.state
   unfolding o₁ o₂
   second =
-      ap₂ (λ hs s. run t m hs s) (hints_drop hints r₁.taken ∙ ap (λ a. hints_at hints a) taken₁ ∙ sym (left-hints t hints b set walk l₁ n b₁ s₁ w₁ r₁ p₁))
+      ap₂ (λ hs s. run t m hs s) (hints_drop hints (taken_of r₁) ∙ ap (λ a. hints_at hints a) taken₁ ∙ sym (left-hints t hints b set walk l₁ n b₁ s₁ w₁ r₁ p₁))
       (left-state t hints b set walk l₁ n b₁ s₁ w₁ r₁ p₁)
 
   both : run t (n + m) (hints_at hints 0) (decode b) ≡ followed_by o₁ o₂
@@ -120,19 +121,18 @@ module _ (t : Table) (hints b set walk : List ℕ) (n m : ℕ) (b₁ s₁ w₁ :
       ]
 
   -- whatever set and walk the other two are lent
-  module _ (set₂ walk₂ set₃ walk₃ b₂ s₂ w₂ b₃ s₃ w₃ : List ℕ) (r₂ r₃ : answer.RunAnswer)
+  module _ (set₂ walk₂ set₃ walk₃ b₂ s₂ w₂ b₃ s₃ w₃ : List ℕ) (r₂ r₃ : Result RunAnswer Refusal)
       (four : length set₂ ≡ 4) (long : length walk₂ ≡ 256) (l₃ : Lent t hints b set₃ walk₃)
       (p₂ : RunPromise t rest m b₁ b₂ set₂ s₂ walk₂ w₂ r₂) (p₃ : RunPromise t hints (n + m) b b₃ set₃ s₃ walk₃ w₃ r₃) where
     l₂ : Lent t rest b₁ set₂ walk₂
-    l₂ = lent_again t hints b set walk l₁ n b₁ s₁ w₁ r₁ p₁ r₁.taken set₂ walk₂ four long
+    l₂ = lent_again t hints b set walk l₁ n b₁ s₁ w₁ r₁ p₁ (taken_of r₁) set₂ walk₂ four long
 
     pub split_answer : SplitAnswer r₃ r₁ r₂ b₃ b₂
     unfolding followed_by o₁ o₂
     split_answer =
         record {
-          outcome = outcome_one r₃.outcome r₂.outcome
-              (told t hints b set₃ walk₃ l₃ (n + m) b₃ s₃ w₃ r₃ p₃ ∙ ap (λ o. run_answer 0 o.standing o.state) both
-              ∙ sym (told t rest b₁ set₂ walk₂ l₂ m b₂ s₂ w₂ r₂ p₂));
+          outcome = told t hints b set₃ walk₃ l₃ (n + m) b₃ s₃ w₃ r₃ p₃ ∙ ap (λ o. run_answer 0 o.standing o.state) both
+              ∙ sym (told t rest b₁ set₂ walk₂ l₂ m b₂ s₂ w₂ r₂ p₂);
           rules = fired t hints b set₃ walk₃ l₃ (n + m) b₃ s₃ w₃ r₃ p₃ ∙ ap (λ o. o.rules) both
               ∙ ap₂ ◌+◌ (sym (fired t hints b set walk l₁ n b₁ s₁ w₁ r₁ p₁)) (sym (fired t rest b₁ set₂ walk₂ l₂ m b₂ s₂ w₂ r₂ p₂));
           taken = took t hints b set₃ walk₃ l₃ (n + m) b₃ s₃ w₃ r₃ p₃ ∙ ap (λ o. o.taken) both
@@ -144,7 +144,7 @@ module _ (t : Table) (hints b set walk : List ℕ) (n m : ℕ) (b₁ s₁ w₁ :
         }
 
   -- the second lent the set and the walk that the first left
-  module _ (b₂ s₂ w₂ b₃ s₃ w₃ : List ℕ) (r₂ r₃ : answer.RunAnswer)
+  module _ (b₂ s₂ w₂ b₃ s₃ w₃ : List ℕ) (r₂ r₃ : Result RunAnswer Refusal)
       (p₂ : RunPromise t rest m b₁ b₂ s₁ s₂ w₁ w₂ r₂) (p₃ : RunPromise t hints (n + m) b b₃ set s₃ walk w₃ r₃) where
     four₁ : length s₁ ≡ 4
     four₁ = set_four t hints b set walk l₁ n b₁ s₁ w₁ r₁ p₁
@@ -153,7 +153,7 @@ module _ (t : Table) (hints b set walk : List ℕ) (n m : ℕ) (b₁ s₁ w₁ :
     long₁ = walk_256 t hints b set walk l₁ n b₁ s₁ w₁ r₁ p₁
 
     again : Lent t rest b₁ s₁ w₁
-    again = lent_again t hints b set walk l₁ n b₁ s₁ w₁ r₁ p₁ r₁.taken s₁ w₁ four₁ long₁
+    again = lent_again t hints b set walk l₁ n b₁ s₁ w₁ r₁ p₁ (taken_of r₁) s₁ w₁ four₁ long₁
 
     pub split_budget : SplitBudget r₃ r₁ r₂ b₃ b₂ s₃ s₂ w₃ w₂
     unfolding followed_by o₁ o₂

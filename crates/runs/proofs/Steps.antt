@@ -13,14 +13,14 @@ use Rattle.rules.proofs.Normal.{Words, next-normal}
 use Rattle.rules.proofs.Reading.{conflict_256, n_is}
 use Rattle.rules.proofs.Ready.{Ready, ready_by, ready_holds}
 use Rattle.rules.specs.Buffer.{encode, decode, Normal}
-use Rattle.rules.specs.Rules.{due, fire, after_unfold, after_candidate, after_decide, after_conflict, house}
+use Rattle.rules.specs.Rules.{due, fire, after_unfold, after_conflict, house}
 use Rattle.rules.specs.Runs.{choose, next, pick, offered, asks, will_do, lacks_room_for}
 use Rattle.rules.specs.Table.{Table}
 use Rattle.runs.proofs.Closing.{climbs_by}
 use Rattle.runs.proofs.Enums.{due-as}
 use Rattle.runs.proofs.Tested.{conflict_held}
 use Rattle.runs.specs.Hints.{hints_at}
-use Rattle.runs.specs.Inner.{IsDue, Fireable, Chose, Closing, Stepped}
+use Rattle.runs.specs.Inner.{IsDue, Fireable, Chose, Closing, Stepped, after_above}
 use Rattle.runs.specs.Said.{as_rule}
 use Rattle.runs.specs.declared.Rule as code
 use Rattle.sets.specs.Sets.{Set}
@@ -31,12 +31,14 @@ module _ (N : ℕ) (rule : code.Rule) (b b' : List ℕ) (z : Set) where
   unfolding fire as_rule
   fire-unfold e q = rw e q
 
-  pub fire-candidate : rule ≡ code.TheVariants.Candidate → b' ≡ encode (after_candidate (decode b) z) → b' ≡ encode (fire N (as_rule rule) (decode b) z)
-  unfolding fire as_rule
+  pub fire-candidate : rule ≡ code.TheVariants.Candidate → b' ≡ encode (after_above (decode b) (get_or b 0 0) z)
+      → b' ≡ encode (fire N (as_rule rule) (decode b) z)
+  unfolding fire as_rule decode
   fire-candidate e q = rw e q
 
-  pub fire-decide : rule ≡ code.TheVariants.Decide → b' ≡ encode (after_decide (decode b) z) → b' ≡ encode (fire N (as_rule rule) (decode b) z)
-  unfolding fire as_rule
+  pub fire-decide : rule ≡ code.TheVariants.Decide → b' ≡ encode (after_above (decode b) (get_or b 1 0) z)
+      → b' ≡ encode (fire N (as_rule rule) (decode b) z)
+  unfolding fire as_rule decode
   fire-decide e q = rw e q
 
   pub fire-conflict : Fireable N b rule → rule ≡ code.TheVariants.Conflict → b' ≡ encode (after_conflict 256 (decode b) z)

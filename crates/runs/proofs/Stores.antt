@@ -1,6 +1,5 @@
 -- Stores into the words of a state: each rule's stores make the words of the next state.
 use Prim.Native.Nat.{ℕ, zero, suc, ◌+◌, ◌-◌, ◌*◌, ◌≤◌, ◌<◌, ◌/◌, ◌%◌}
-use native.Mathlib.Nat.{not-suc-le-zero, le_of_suc-le-suc}
 use native.Mathlib.Omega.{arith}
 use mathlib.Core.Bool.{cond}
 use mathlib.Core.List.{List, [], ◌∷◌}
@@ -8,35 +7,27 @@ use mathlib.Core.Logic.{◌⊎◌, inl, inr}
 use mathlib.Core.Path.{◌≡◌, refl, sym, ap, ◌∙◌, fun_ext}
 use borrow.Author.Tests.{lt-ltb}
 use lib.Dec.{ltb}
-use lib.ListN.{length, get_or, set, length-set}
-use lib.Seq.{sets, length-sets, ext_get_or, get_or-set_same, get_or-set_other}
+use lib.ListN.{length, get_or, set}
+use lib.Seq.{sets, length-sets, ext_get_or}
 use Rattle.rules.proofs.Buffer.{at_x, at_y, encode-n, encode-k, encode-length}
 use Rattle.rules.proofs.Invariant.{put_same, put_other, cut_low, cut_high}
 use Rattle.rules.specs.Buffer.{encode, decode}
 use Rattle.rules.proofs.Reading.{n_is, k_is}
 use Rattle.rules.proofs.Ready.{Holds}
-use Rattle.runs.specs.Inner.{Untouched}
+use Rattle.runs.specs.Inner.{Untouched, after_above}
+use Rattle.sets.proofs.Lists.{sets_before, sets_after, sets_at}
 use Rattle.sets.proofs.Members.{proper_length, proper_of}
-use Rattle.rules.specs.Rules.{put, cut, after_unfold, after_candidate, after_decide, after_conflict, State}
+use Rattle.rules.specs.Rules.{put, cut, after_unfold, after_conflict, State}
 use Rattle.sets.proofs.Tests.{passes, fails, leb-says, lt_or_ge, same_or}
 use Rattle.sets.proofs.Words.{four_of}
 use Rattle.sets.specs.Sets.{Set, empty, full, meet, quad}
 
 -- reading outside of what was stored, and in it
 pub get_or-sets_out : (vs l : List ℕ) (i k : ℕ) → (k < i) ⊎ (i + length vs ≤ k) → get_or (sets l i vs) k 0 ≡ get_or l k 0
-get_or-sets_out [] l i k h = refl
-get_or-sets_out (v ∷ vs) l i k h =
-    get_or-sets_out vs (set l i v) (suc i) k (elim h [ inl a ↦ inl (omega arith) | inr b ↦ inr (omega arith) ])
-    ∙ get_or-set_other l i k v 0 (λ q. elim h [ inl a ↦ omega arith | inr b ↦ omega arith ])
+get_or-sets_out vs l i k h = elim h [ inl a ↦ sets_before 0 vs l i k a | inr b ↦ sets_after 0 vs l i k b ]
 
 pub get_or-sets_in : (vs l : List ℕ) (i k : ℕ) → k < length vs → i + length vs ≤ length l → get_or (sets l i vs) (i + k) 0 ≡ get_or vs k 0
-get_or-sets_in [] l i k h m = absurd (not-suc-le-zero h)
-get_or-sets_in (v ∷ vs) l i zero h m =
-    let e : i + 0 ≡ i = omega arith in
-    rw e (get_or-sets_out vs (set l i v) (suc i) i (inl (omega arith)) ∙ get_or-set_same l i v 0 (omega arith))
-get_or-sets_in (v ∷ vs) l i (suc k) h m =
-    let e : i + suc k ≡ suc i + k = omega arith in
-    rw e (get_or-sets_in vs (set l i v) (suc i) k (le_of_suc-le-suc h) (rw length-set (omega arith)))
+get_or-sets_in vs l i k h m = sets_at 0 vs l i k h (omega arith)
 
 -- a state with one number or one list of sets changed
 abbrev pub with_n : State → ℕ → State
@@ -143,21 +134,12 @@ module _ (b : List ℕ) (h : Holds b) where
       e1 ∙ ap (λ c. sets c (2 + 4 * get_or b 0 0) v) same ∙ put-x (decode b) (get_or b 0 0) v four l in
       ap (λ c. set c 1 (get_or b 0 0 + 1)) (ap (λ c. set c 0 (get_or b 0 0 + 1)) d1 ∙ set-n _ _) ∙ set-k _ _ ∙ rw (ev, n_is b)
 
-  pub fired_candidate : (z : Set) (b1 : List ℕ) → length z ≡ 4 → b1 ≡ sets b (1034 + 4 * (get_or b 0 0 - 1)) z
-      → set b1 1 (get_or b 0 0 - 1) ≡ encode (after_candidate (decode b) z)
-  fired_candidate z b1 four e1 =
-      let d1 : b1 ≡ encode (with_y (decode b) (put (decode b).y (get_or b 0 0 - 1) z)) =
-      e1 ∙ ap (λ c. sets c (1034 + 4 * (get_or b 0 0 - 1)) z) same
-      ∙ put-y (decode b) (get_or b 0 0 - 1) z four (omega (arith, h.spans.two, h.spans.room)) in
-      ap (λ c. set c 1 (get_or b 0 0 - 1)) d1 ∙ set-k _ _ ∙ rw (n_is b)
-
-  pub fired_decide : (z : Set) (b1 : List ℕ) → length z ≡ 4 → b1 ≡ sets b (1034 + 4 * (get_or b 1 0 - 1)) z
-      → set b1 1 (get_or b 1 0 - 1) ≡ encode (after_decide (decode b) z)
-  fired_decide z b1 four e1 =
-      let d1 : b1 ≡ encode (with_y (decode b) (put (decode b).y (get_or b 1 0 - 1) z)) =
-      e1 ∙ ap (λ c. sets c (1034 + 4 * (get_or b 1 0 - 1)) z) same
-      ∙ put-y (decode b) (get_or b 1 0 - 1) z four (omega (arith, h.spans.pos, h.spans.le, h.spans.room)) in
-      ap (λ c. set c 1 (get_or b 1 0 - 1)) d1 ∙ set-k _ _ ∙ rw (k_is b)
+  pub fired_above : (i : ℕ) (z : Set) (b1 : List ℕ) → i ≤ 258 → 0 < i → length z ≡ 4 → b1 ≡ sets b (1034 + 4 * (i - 1)) z
+      → set b1 1 (i - 1) ≡ encode (after_above (decode b) i z)
+  fired_above i z b1 room pos four e1 =
+      let d1 : b1 ≡ encode (with_y (decode b) (put (decode b).y (i - 1) z)) =
+      e1 ∙ ap (λ c. sets c (1034 + 4 * (i - 1)) z) same ∙ put-y (decode b) (i - 1) z four (omega arith) in
+      ap (λ c. set c 1 (i - 1)) d1 ∙ set-k _ _
 
 -- every set below m met with z: what the loop of Conflict has made
 unfoldable pub cut_to : ℕ → (ℕ → Set) → ℕ → Set → ℕ → Set

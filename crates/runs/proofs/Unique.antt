@@ -2,13 +2,17 @@
 use Prim.Native.Nat.{ℕ}
 use mathlib.Core.List.{List}
 use mathlib.Core.Path.{◌≡◌, refl, sym, ap, ◌∙◌}
+use Rattle.std.specs.Prelude.{Result, Ok, Err}
+use Rattle.answers.proofs.Said.{number_once, said_as_once, refusal_once}
 use Rattle.answers.proofs.Unique.{only}
+use Rattle.answers.proofs.Values.{no_value}
+use Rattle.answers.specs.Said.{number_of, refusal_of}
+use Rattle.answers.specs.declared.Refusal.{Refusal}
 use Rattle.rules.specs.Table.{Table}
 use Rattle.runs.specs.Promises.{RunPromise, FreshPromise, SinglePromise}
-use Rattle.runs.specs.Said.{said, as_rule, rule_of, said_one}
+use Rattle.runs.specs.Said.{said, as_rule, rule_of, as_outcome, rules_of, taken_of, used_of}
 use Rattle.sets.specs.Sets.{Set}
 use Rattle.runs.specs.declared.Rule as code
-use Rattle.runs.specs.declared.Asked as asked
 use Rattle.runs.specs.declared.Outcome as outcome
 use Rattle.runs.specs.declared.RunAnswer as answer
 
@@ -20,48 +24,41 @@ rule_back_code code.TheVariants.Candidate = refl
 rule_back_code code.TheVariants.Decide = refl
 rule_back_code code.TheVariants.Conflict = refl
 
-asked_one : (a b : asked.Asked) → said_one a ≡ said_one b → a ≡ b
-asked_one (asked.TheVariants.Fired r) (asked.TheVariants.Fired s) e =
-    let q : as_rule r ≡ as_rule s = cc in ap asked.TheVariants.Fired (sym (rule_back_code r) ∙ ap rule_of q ∙ rule_back_code s)
-asked_one (asked.TheVariants.Fired r) (asked.TheVariants.Refused n) e = cc
-asked_one (asked.TheVariants.Refused m) (asked.TheVariants.Fired s) e = cc
-asked_one (asked.TheVariants.Refused m) (asked.TheVariants.Refused n) e = let q : m ≡ n = cc in rw q
+rule_one : (a b : code.Rule) → as_rule a ≡ as_rule b → a ≡ b
+rule_one a b e = sym (rule_back_code a) ∙ ap rule_of e ∙ rule_back_code b
 
-pub outcome_one : (a b : outcome.Outcome) → said a ≡ said b → a ≡ b
+outcome_one : (a b : outcome.Outcome) → as_outcome a ≡ as_outcome b → a ≡ b
 outcome_one (outcome.TheVariants.Safe i) (outcome.TheVariants.Safe j) e = let q : i ≡ j = cc in rw q
 outcome_one (outcome.TheVariants.Safe i) (outcome.TheVariants.Reached m) e = cc
 outcome_one (outcome.TheVariants.Safe i) outcome.TheVariants.Unfinished e = cc
-outcome_one (outcome.TheVariants.Safe i) (outcome.TheVariants.Refused n) e = cc
 outcome_one (outcome.TheVariants.Reached m) (outcome.TheVariants.Safe j) e = cc
 outcome_one (outcome.TheVariants.Reached m) (outcome.TheVariants.Reached n) e = let q : m ≡ n = cc in rw q
 outcome_one (outcome.TheVariants.Reached m) outcome.TheVariants.Unfinished e = cc
-outcome_one (outcome.TheVariants.Reached m) (outcome.TheVariants.Refused n) e = cc
 outcome_one outcome.TheVariants.Unfinished (outcome.TheVariants.Safe j) e = cc
 outcome_one outcome.TheVariants.Unfinished (outcome.TheVariants.Reached m) e = cc
 outcome_one outcome.TheVariants.Unfinished outcome.TheVariants.Unfinished e = refl
-outcome_one outcome.TheVariants.Unfinished (outcome.TheVariants.Refused n) e = cc
-outcome_one (outcome.TheVariants.Refused m) (outcome.TheVariants.Safe j) e = cc
-outcome_one (outcome.TheVariants.Refused m) (outcome.TheVariants.Reached n) e = cc
-outcome_one (outcome.TheVariants.Refused m) outcome.TheVariants.Unfinished e = cc
-outcome_one (outcome.TheVariants.Refused m) (outcome.TheVariants.Refused n) e = let q : m ≡ n = cc in rw q
 
-pub fresh-once : (N : ℕ) (b : List ℕ) {b' b'' : List ℕ} {r r' : ℕ} → FreshPromise N b b' r → FreshPromise N b b'' r' → (r ≡ r') × (b' ≡ b'')
-fresh-once N b p q = (only p.answer q.answer, only p.buffer q.buffer)
+run_one : (a b : Result answer.RunAnswer Refusal) → said a ≡ said b → rules_of a ≡ rules_of b → taken_of a ≡ taken_of b → used_of a ≡ used_of b → a ≡ b
+run_one (Ok a) (Ok b) e f t u =
+    let q : as_outcome a.outcome ≡ as_outcome b.outcome = cc in
+    λ i. Ok (record { outcome = outcome_one a.outcome b.outcome q i; rules = f i; taken = t i; used = u i })
+run_one (Ok a) (Err s) e f t u = no_value (sym e)
+run_one (Err r) (Ok b) e f t u = no_value e
+run_one (Err r) (Err s) e f t u = let q : number_of r ≡ number_of s = cc in ap Err (number_once r s q)
 
-pub single-once : (t : Table) (z : Set) (b : List ℕ) {b' b'' : List ℕ} {r r' : asked.Asked} → SinglePromise t z b b' r → SinglePromise t z b b'' r'
-    → (r ≡ r') × (b' ≡ b'')
-single-once t z b {r = r} {r' = r'} p q = (asked_one r r' (only p.answer q.answer), only p.buffer q.buffer)
+pub fresh-once : (N : ℕ) (b : List ℕ) {b' b'' : List ℕ} {r r' : Result (Unit {0}) Refusal} → FreshPromise N b b' (refusal_of r)
+    → FreshPromise N b b'' (refusal_of r') → (r ≡ r') × (b' ≡ b'')
+fresh-once N b {r = r} {r' = r'} p q = (refusal_once r r' (only p.answer q.answer), only p.buffer q.buffer)
 
-pub run-once : (t : Table) (hints : List ℕ) (budget : ℕ) (b set walk : List ℕ) {b₁ b₂ s₁ s₂ w₁ w₂ : List ℕ} {r r' : answer.RunAnswer}
+pub single-once : (t : Table) (z : Set) (b : List ℕ) {b' b'' : List ℕ} {r r' : Result code.Rule Refusal} → SinglePromise t z b b' r
+    → SinglePromise t z b b'' r' → (r ≡ r') × (b' ≡ b'')
+single-once t z b {r = r} {r' = r'} p q = (said_as_once as_rule rule_one r r' (only p.answer q.answer), only p.buffer q.buffer)
+
+pub run-once : (t : Table) (hints : List ℕ) (budget : ℕ) (b set walk : List ℕ) {b₁ b₂ s₁ s₂ w₁ w₂ : List ℕ} {r r' : Result answer.RunAnswer Refusal}
     → RunPromise t hints budget b b₁ set s₁ walk w₁ r → RunPromise t hints budget b b₂ set s₂ walk w₂ r'
     → (r ≡ r') × (b₁ ≡ b₂) × (s₁ ≡ s₂) × (w₁ ≡ w₂)
 run-once t hints budget b set walk {r = r} {r' = r'} p q = (
-  λ i. record {
-    outcome = outcome_one r.outcome r'.outcome (only p.outcome q.outcome) i;
-    rules = only p.rules q.rules i;
-    taken = only p.taken q.taken i;
-    used = only p.used q.used i;
-  },
+  run_one r r' (only p.outcome q.outcome) (only p.rules q.rules) (only p.taken q.taken) (only p.used q.used),
   only p.buffer q.buffer,
   only p.set_is q.set_is,
   only p.walk_is q.walk_is,

@@ -4,7 +4,7 @@ use native.Mathlib.Omega.{arith}
 use mathlib.Core.Bool.{Bool, true, false, not, ◌&&◌}
 use mathlib.Core.List.{List, [], ◌∷◌}
 use mathlib.Core.Logic.{inl, inr}
-use mathlib.Core.Option.{Option, none, some}
+use Rattle.std.specs.Prelude.{Option, None, Some, unwrap_or}
 use mathlib.Core.Path.{◌≡◌, refl, sym, ap, ◌∙◌, ap₂}
 use borrow.Author.Tests.{le-ltb}
 use lib.ListN.{length, get_or, set, length-set}
@@ -26,10 +26,6 @@ use Rattle.sets.proofs.Tests.{passed, fails, clash, never, implied, leb-says, lt
 use Rattle.sets.proofs.Within.{is_beyond}
 use Rattle.sets.specs.Search.{or_else, least}
 use Rattle.sets.specs.Sets.{Set, member, sound, minus, count, smallest, quad}
-use Rattle.sets.specs.declared.Smallest.{Smallest}
-use Rattle.sets.specs.declared.Smallest.TheVariants.{Member, Nothing}
-use Rattle.sets.specs.declared.Smallest as small
-use Rattle.sets.specs.Said.{said as smallestSaid}
 
 -- ---- the smallest state outside a set
 least-narrow : (N : ℕ) (p : ℕ → Bool) → N ≤ 256 → ((u : ℕ) → N ≤ u → u < 256 → p u ≡ false) → least 256 p ≡ least N p
@@ -60,19 +56,17 @@ or-zero_below x = go (smallest x) (smallest-is x)
     go o (here i l e h) = l
     go o (nowhere h) = omega arith
 
--- the two answers of `smallest`
-pub first_member : (a y w : Set) (r : small.Smallest) (u : ℕ) → w ≡ minus 256 a y → smallestSaid r ≡ smallest w → r ≡ small.TheVariants.Member u
-    → Outside a y u
+-- what was found, or 0
+pub outside_by : (a y w : Set) (o : Option ℕ) (r : ℕ) → w ≡ minus 256 a y → o ≡ smallest w → r ≡ unwrap_or o 0 → Outside a y r
 unfolding or_zero
-first_member a y w r u e s q =
-    let k : some u ≡ smallest (minus 256 a y) = ap smallestSaid (sym q) ∙ s ∙ ap smallest e in
-    record { is = rw (← k); small = rw (← k) at (or-zero_below (minus 256 a y)) }
+outside_by a y w o r e s q = record { is = is; small = rw is (or-zero_below _) }
+  where
+    same : (o : Option ℕ) → unwrap_or o 0 ≡ or_zero o
+    same None = refl
+    same (Some u) = refl
 
-pub first_nothing : (a y w : Set) (r : small.Smallest) → w ≡ minus 256 a y → smallestSaid r ≡ smallest w → r ≡ small.TheVariants.Nothing → Outside a y 0
-unfolding or_zero
-first_nothing a y w r e s q =
-    let k : none ≡ smallest (minus 256 a y) = ap smallestSaid (sym q) ∙ s ∙ ap smallest e in
-    record { is = rw (← k); small = omega arith }
+    is : r ≡ or_zero (smallest (minus 256 a y))
+    is = q ∙ same o ∙ ap or_zero (s ∙ ap smallest e)
 
 -- a row of a sound table holds no number from N up
 row-empty : (t : Table) → Good t → (s : ℕ) → s < 256 → t.size ≤ s → sound 0 (row t.rows s) ≡ true

@@ -1,9 +1,10 @@
 -- For the crate's own private functions, and no part of what a reader must believe: what they ask for and hand on.
-use Rattle.std.specs.Prelude.{ℕ, suc, ◌+◌, ◌*◌, ◌≤◌, ◌<◌, Bool, true, false, List, ◌≡◌, length, get_or}
+use Rattle.std.specs.Prelude.{ℕ, suc, ◌+◌, ◌-◌, ◌≤◌, ◌<◌, false, List, Result, Ok, Err, ◌≡◌, ◌≢◌, All, length, get_or}
+use Rattle.answers.specs.declared.Refusal.{Refusal}
 use Rattle.sets.proofs.Within.{Within, Beyond}
-use Rattle.sets.specs.Sets.{Set, Proper, empty, minus, meet, within, quad, smallest}
-use Rattle.rules.specs.Table.{Table, backward}
-use Rattle.rules.specs.Rules.{State, state, closes, conclusion, due, house}
+use Rattle.sets.specs.Sets.{Set, Proper, empty, minus, meet, smallest}
+use Rattle.rules.specs.Table.{Table, g}
+use Rattle.rules.specs.Rules.{State, state, put, closes, conclusion, due, house}
 use Rattle.rules.specs.Runs as runs
 use Rattle.rules.specs.Runs.{choose}
 use Rattle.rules.specs.ShownWalk.{or_zero}
@@ -13,16 +14,17 @@ use Rattle.runs.specs.declared.Standing.{Standing}
 use Rattle.runs.specs.declared.Rule.{Rule}
 use Rattle.runs.specs.declared.Rule.TheVariants.{Conflict}
 use Rattle.runs.specs.declared.RunAnswer.{RunAnswer}
-use Rattle.runs.specs.declared.Outcome.TheVariants.{Refused}
+use Rattle.runs.specs.declared.memo.Kept.{Kept}
+use Rattle.runs.specs.declared.memo.Memo.{Memo}
 use Rattle.runs.specs.declared.search.Ran.{Ran}
-use Rattle.runs.specs.Said.{standing_of, rule_of, said}
+use Rattle.runs.specs.Said.{as_standing, rule_of, said}
 use Rattle.runs.specs.Hints.{hints_at, chosen}
 use Rattle.runs.specs.Promises.{run_answer, set_after, walk_after, Answered}
 
 module _ (t : Table) (b : List ℕ) where
   -- how the run in the buffer stands; the rule due; its house choice
   abbrev pub Stands : Standing → Type 0
-  Stands v = v ≡ standing_of (conclusion t (decode b))
+  Stands v = as_standing v ≡ conclusion t (decode b)
 
   abbrev pub IsDue : Rule → Type 0
   IsDue rule = rule ≡ rule_of (due t (decode b))
@@ -40,33 +42,33 @@ pub record AtRule (t : Table) (b : List ℕ) (rule : Rule) (h : Set) : Type 0 wh
   pub house : IsHouse t b h
 
 -- ---- the memo
--- two sets were compared; r says whether they are the same
-pub record Same (a b : Set) (r : Bool) : Type 0 where
-  -- only yes is relied on
-  pub is : r ≡ true → a ≡ b
+-- a place holds g of its set; where the set is empty, it holds nothing
+abbrev pub Keeps : Table → Kept → Type 0
+Keeps t k = k.set.words ≢ empty → k.image.words ≡ g t k.set.words
 
--- g of sets, kept for later: 258 pairs of sets, a set and g of it. Where the first is empty, nothing is kept
-pub record Remembers (N : ℕ) (rows m : List ℕ) : Type 0 where
-  -- eight words to a pair
-  pub long : length m ≡ 2064
-  -- the second set of pair d is g of the first
-  pub at : (d : ℕ) → d < 258 → within 256 (quad m (8 * d)) empty ≡ false → quad m (8 * d + 4) ≡ backward N rows (quad m (8 * d))
+-- g of sets, kept for later
+abbrev pub Remembers : Table → Memo → Type 0
+Remembers t m = All (Keeps t) m.places
+
+-- nothing is kept, of whatever table
+abbrev pub Blank : Memo → Type 0
+Blank m = (t : Table) → Remembers t m
 
 -- w is g(y), and m a memo
-pub record Recalled (N : ℕ) (rows : List ℕ) (y w : Set) (m : List ℕ) : Type 0 where
+pub record Recalled (t : Table) (y w : Set) (m : Memo) : Type 0 where
   -- what was asked for
-  pub is : w ≡ backward N rows y
+  pub is : w ≡ g t y
   -- the memo, for the next time
-  pub kept : Remembers N rows m
+  pub kept : Remembers t m
 
 -- the rule due, its house choice, and the memo after g was asked for
-pub record Ruled (t : Table) (b : List ℕ) (rule : Rule) (h : Set) (m : List ℕ) : Type 0 where
+pub record Ruled (t : Table) (b : List ℕ) (rule : Rule) (h : Set) (m : Memo) : Type 0 where
   -- `rule` is due
   pub due : IsDue t b rule
   -- h is its house choice
   pub house : IsHouse t b h
   -- the memo, for the next time
-  pub kept : Remembers t.size t.rows m
+  pub kept : Remembers t m
 
 -- ---- where a run can conclude
 -- where x_(j+1) can lie within x_j
@@ -120,6 +122,10 @@ pub record Fireable (N : ℕ) (b : List ℕ) (rule : Rule) : Type 0 where
   -- the chain rises, so that Conflict can leave the lower x alone
   pub climbs : Climbs (decode b)
 
+-- y_(i-1) becomes z, and k becomes i - 1: what Candidate does with n for i, and Decide with k
+abbrev pub after_above : State → ℕ → Set → State
+after_above s i z = state s.n (i - 1) s.x (put s.y (i - 1) z)
+
 -- z is the set chosen from hint a on, with `taken` hints taken and `used` used
 abbrev pub Chose : Table → List ℕ → ℕ → List ℕ → Set → ℕ → ℕ → Type 0
 Chose t hints a b z taken used = choose t (hints_at hints a) (decode b) ≡ chosen z (hints_at hints (a + taken)) taken used
@@ -135,14 +141,16 @@ pub record Stepped (t : Table) (hints : List ℕ) (a : ℕ) (b b' : List ℕ) (t
 
 -- a run done, as an outcome of the rules
 pub record RanTo (o : runs.Ran) (b : List ℕ) (r : Ran) : Type 0 where
-  pub standing : r.standing ≡ standing_of o.standing
+  pub standing : as_standing r.standing ≡ o.standing
   pub fired : r.rules ≡ o.rules
   pub took : r.taken ≡ o.taken
   pub uses : r.used ≡ o.used
   pub buffer : b ≡ encode o.state
 
-abbrev pub Advanced : Table → List ℕ → ℕ → List ℕ → List ℕ → Ran → Type 0
-Advanced t hints budget b b' r = RanTo (runs.run t budget (hints_at hints 0) (decode b)) b' r
+-- .. from a buffer that passes the entry check: there is always room for the rule due
+abbrev pub Advanced : Table → List ℕ → ℕ → List ℕ → List ℕ → Result Ran Refusal → Type 0
+Advanced t hints budget b b' (Ok r) = RanTo (runs.run t budget (hints_at hints 0) (decode b)) b' r
+Advanced t hints budget b b' (Err e) = ⊥
 
 -- a run that stands so, and room for its reason
 pub record Ending (t : Table) (b : List ℕ) (v : Standing) (set walk : List ℕ) : Type 0 where
@@ -153,7 +161,7 @@ pub record Ending (t : Table) (b : List ℕ) (v : Standing) (set walk : List ℕ
 
 -- what the end of a run answers and writes, by the state in the buffer
 pub record Finished (t : Table) (b : List ℕ) (r : Ran) (a : RunAnswer) (set set' walk walk' : List ℕ) : Type 0 where
-  pub outcome : said a.outcome ≡ run_answer 0 (conclusion t (decode b)) (decode b)
+  pub outcome : said (Ok a) ≡ run_answer 0 (conclusion t (decode b)) (decode b)
   pub fired : a.rules ≡ r.rules
   pub took : a.taken ≡ r.taken
   pub uses : a.used ≡ r.used
@@ -161,7 +169,7 @@ pub record Finished (t : Table) (b : List ℕ) (r : Ran) (a : RunAnswer) (set se
   pub walk_is : walk' ≡ walk_after t 0 (conclusion t (decode b)) (decode b) walk
 
 -- a run that is not refused
-abbrev pub Gone : Table → List ℕ → ℕ → List ℕ → List ℕ → List ℕ → List ℕ → List ℕ → List ℕ → RunAnswer → Type 0
+abbrev pub Gone : Table → List ℕ → ℕ → List ℕ → List ℕ → List ℕ → List ℕ → List ℕ → List ℕ → Result RunAnswer Refusal → Type 0
 Gone t hints budget b b' set set' walk walk' a =
     Answered t 0 (runs.run t budget (hints_at hints 0) (decode b)) b b' set set' walk walk' a
 
@@ -169,10 +177,6 @@ Gone t hints budget b b' set set' walk walk' a =
 pub record Outside (a y : Set) (r : ℕ) : Type 0 where
   pub is : r ≡ or_zero (smallest (minus 256 a y))
   pub small : r < 256
-
--- a refusal's number alone
-abbrev pub refused_answer : ℕ → RunAnswer
-refused_answer n = record { outcome = Refused n; rules = 0; taken = 0; used = 0 }
 
 -- the state of a buffer of zeros
 abbrev pub nothing : State

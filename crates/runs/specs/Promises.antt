@@ -1,9 +1,10 @@
 -- What the public calls promise: the answer and the later contents of each lent buffer, for all inputs.
-use Rattle.std.specs.Prelude.{ℕ, zero, suc, ◌-◌, ◌%◌, Bool, true, false, ◌&&◌, cond, List, [], ◌∷◌, ◌≡◌, eqb, length}
+use Rattle.std.specs.Prelude.{ℕ, zero, suc, ◌-◌, ◌%◌, Bool, true, false, ◌&&◌, cond, List, [], ◌∷◌, Result, ◌≡◌, eqb, length}
 use Rattle.std.proofs.lemmas.List.Edits.{sets}
 use Rattle.answers.specs.Answer.{Answer, refused, given}
 use Rattle.answers.specs.Refusals as refusals
 use Rattle.answers.specs.Refusals.{no_refusal, out_of_range, wrong_length, ◌unless◌, first_failing}
+use Rattle.answers.specs.declared.Refusal.{Refusal}
 use Rattle.sets.specs.Sets.{Set, in_range}
 use Rattle.rules.specs.Table.{Table}
 use Rattle.rules.specs.Rules.{State, Standing, safe, reached, unfinished, no_room, Rule, fresh_of}
@@ -13,9 +14,9 @@ use Rattle.rules.specs.ShownWalk.{shown_walk}
 use Rattle.rules.specs.Single.{Fired, single}
 use Rattle.rules.specs.Buffer.{encode, decode}
 use Rattle.entries.specs.Refusal.{entry_order, entry_refusal}
-use Rattle.runs.specs.declared.Asked.{Asked}
+use Rattle.runs.specs.declared.Rule as code
 use Rattle.runs.specs.declared.RunAnswer.{RunAnswer}
-use Rattle.runs.specs.Said.{Outcome, safe_with, reached_with, not_ended, said, said_one}
+use Rattle.runs.specs.Said.{Outcome, safe_with, reached_with, not_ended, said, said_one, rules_of, taken_of, used_of}
 use Rattle.runs.specs.Hints.{hints_at}
 
 -- ---- a fresh run buffer: 7, 2
@@ -38,11 +39,11 @@ single_buffer zero (refused n) b = b
 single_buffer zero (given f) b = encode f.state
 
 -- an answer and a buffer, from a refusal and what the rules say
-pub record SingleAnswered (t : Table) (z : Set) (refusal : ℕ) (b b' : List ℕ) (r : Asked) : Type 0 where
+pub record SingleAnswered (t : Table) (z : Set) (refusal : ℕ) (b b' : List ℕ) (r : Result code.Rule Refusal) : Type 0 where
   pub answer : said_one r ≡ single_answer refusal (single t (decode b) z)
   pub buffer : b' ≡ single_buffer refusal (single t (decode b) z) b
 
-abbrev pub SinglePromise : Table → Set → List ℕ → List ℕ → Asked → Type 0
+abbrev pub SinglePromise : Table → Set → List ℕ → List ℕ → Result code.Rule Refusal → Type 0
 SinglePromise t z b b' r = SingleAnswered t z (entry_refusal t b) b b' r
 
 -- ---- a run: hints a multiple of 4, set 4, walk 256
@@ -86,15 +87,15 @@ walk_after t zero unfinished s l = l
 walk_after t zero no_room s l = l
 
 -- an answer and three buffers, from a refusal and an outcome of the rules
-pub record Answered (t : Table) (refusal : ℕ) (o : runs.Ran) (b b' set set' walk walk' : List ℕ) (r : RunAnswer) : Type 0 where
-  pub outcome : said r.outcome ≡ run_answer refusal o.standing o.state
-  pub rules : r.rules ≡ cond (ran refusal o.standing) o.rules 0
-  pub taken : r.taken ≡ cond (ran refusal o.standing) o.taken 0
-  pub used : r.used ≡ cond (ran refusal o.standing) o.used 0
+pub record Answered (t : Table) (refusal : ℕ) (o : runs.Ran) (b b' set set' walk walk' : List ℕ) (r : Result RunAnswer Refusal) : Type 0 where
+  pub outcome : said r ≡ run_answer refusal o.standing o.state
+  pub rules : rules_of r ≡ cond (ran refusal o.standing) o.rules 0
+  pub taken : taken_of r ≡ cond (ran refusal o.standing) o.taken 0
+  pub used : used_of r ≡ cond (ran refusal o.standing) o.used 0
   pub buffer : b' ≡ cond (ran refusal o.standing) (encode o.state) b
   pub set_is : set' ≡ set_after refusal o.standing o.state set
   pub walk_is : walk' ≡ walk_after t refusal o.standing o.state walk
 
-abbrev pub RunPromise : Table → List ℕ → ℕ → List ℕ → List ℕ → List ℕ → List ℕ → List ℕ → List ℕ → RunAnswer → Type 0
+abbrev pub RunPromise : Table → List ℕ → ℕ → List ℕ → List ℕ → List ℕ → List ℕ → List ℕ → List ℕ → Result RunAnswer Refusal → Type 0
 RunPromise t hints budget b b' set set' walk walk' r =
     Answered t (run_refusal t hints b set walk) (run t budget (hints_at hints 0) (decode b)) b b' set set' walk walk' r

@@ -1,15 +1,17 @@
--- A call that answers a set: refused, or given.
+-- A call that answers a set: its Err, and its Ok.
 use Prim.Native.Nat.{ℕ}
-use mathlib.Core.Logic.{◌≢◌}
-use mathlib.Core.Path.{◌≡◌, sym, ◌∙◌}
-use borrow.Author.Tests.{eq-eqb, ne_eqb}
+use mathlib.Core.Path.{◌≡◌}
+use Rattle.std.specs.Prelude.{Ok, Err}
+use Rattle.answers.specs.Said.{number_of}
+use Rattle.answers.specs.declared.Refusal.{Refusal}
+use Rattle.answers.proofs.Said.{err_said, ok_said}
 use Rattle.sets.specs.Said.{Answers}
-use Rattle.sets.specs.Sets.{Set, empty}
-use Rattle.sets.specs.declared.SetAnswer.{SetAnswer}
+use Rattle.sets.specs.Sets.{Set}
+use Rattle.sets.specs.declared.StateSet.{StateSet}
 
-module _ (no : ℕ) (result : Set) (r : SetAnswer) where
-  pub answers_refused : r.refusal ≡ no → r.refusal ≢ 0 → r.set.words ≡ empty → Answers no result r
-  answers_refused e h s = record { refusal = e; set = s ∙ rw (ne_eqb no 0 (λ q. h (e ∙ q))) }
+module _ (no : ℕ) (set : Set) where
+  pub answers_err : (r : Refusal) → number_of r ≡ no → Answers no set (Err r)
+  answers_err r e = record { answer = err_said set no r e }
 
-  pub answers_set : r.refusal ≡ no → r.refusal ≡ 0 → r.set.words ≡ result → Answers no result r
-  answers_set e z s = record { refusal = e; set = s ∙ rw (eq-eqb no 0 (sym e ∙ z)) }
+  pub answers_ok : (x : StateSet) → 0 ≡ no → x.words ≡ set → Answers no set (Ok x)
+  answers_ok x e q = record { answer = ok_said set no x.words e q }

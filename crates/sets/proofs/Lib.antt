@@ -9,3 +9,4 @@ pub mod Words
 pub mod Range
 pub mod Answers
 pub mod Unique
+pub mod AllIn

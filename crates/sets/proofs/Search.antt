@@ -6,14 +6,14 @@ use native.Mathlib.Omega.{arith}
 use mathlib.Core.Path.{◌≡◌, refl, sym, ap, ap₂, ◌∙◌}
 use mathlib.Core.Logic.{inl, inr}
 use mathlib.Core.Bool.{Bool, true, false, not, ◌&&◌, ◌||◌}
-use mathlib.Core.Option.{Option, none, some}
+use Rattle.std.specs.Prelude.{Option, None, Some}
 use Rattle.sets.specs.Search.{or_else, least, found, any, all, sum}
 use Rattle.sets.proofs.Tests.{Says, pass, fail, passes, fails, clash, not-true, not-false, lt_or_ge}
 
 -- ---- the least
 pub data Least (n : ℕ) (p : ℕ → Bool) : Option ℕ → Type 0 where
-  here : (i : ℕ) → i < n → p i ≡ true → ((j : ℕ) → j < i → p j ≡ false) → Least n p (some i)
-  nowhere : ((j : ℕ) → j < n → p j ≡ false) → Least n p none
+  here : (i : ℕ) → i < n → p i ≡ true → ((j : ℕ) → j < i → p j ≡ false) → Least n p (Some i)
+  nowhere : ((j : ℕ) → j < n → p j ≡ false) → Least n p None
 
 below_suc : (p : ℕ → Bool) (n : ℕ) → ((j : ℕ) → j < n → p j ≡ false) → p n ≡ false → (j : ℕ) → j < suc n → p j ≡ false
 below_suc p n h e j lt = elim (eq-or-lt_of_le lt) [ inl q ↦ let r : j ≡ n = omega arith in rw r e | inr l ↦ h j (omega arith) ]
@@ -32,7 +32,7 @@ least-is (suc n) p = go (least n p) (least-is n p) (p n) refl
 pub least-only : (n : ℕ) (p : ℕ → Bool) (o o' : Option ℕ) → Least n p o → Least n p o' → o ≡ o'
 least-only n p o o' (here i l e h) (here j m f k) = elim (lt_or_ge i j) [
   | inl a ↦ absurd (clash e (k i a))
-  | inr a ↦ elim (lt_or_ge j i) [ inl b ↦ absurd (clash f (h j b)) | inr b ↦ let q : i ≡ j = omega arith in ap some q ]
+  | inr a ↦ elim (lt_or_ge j i) [ inl b ↦ absurd (clash f (h j b)) | inr b ↦ let q : i ≡ j = omega arith in ap Some q ]
 ]
 least-only n p o o' (here i l e h) (nowhere k) = absurd (clash e (k i l))
 least-only n p o o' (nowhere h) (here j m f k) = absurd (clash f (h j m))
@@ -42,18 +42,18 @@ pub least-of : (n : ℕ) (p : ℕ → Bool) {o : Option ℕ} → Least n p o →
 least-of n p w = least-only n p _ _ w (least-is n p)
 
 -- a loop that looks for the least
-pub least-none : (p : ℕ → Bool) → least 0 p ≡ none
+pub least-none : (p : ℕ → Bool) → least 0 p ≡ None
 unfolding least
 least-none p = refl
 
-pub least_more : (n : ℕ) (p : ℕ → Bool) → least n p ≡ none → p n ≡ false → least (n + 1) p ≡ none
+pub least_more : (n : ℕ) (p : ℕ → Bool) → least n p ≡ None → p n ≡ false → least (n + 1) p ≡ None
 unfolding least or_else
 least_more n p h e = rw (add-one, h, e)
 
-pub least-here : (n : ℕ) (p : ℕ → Bool) (i : ℕ) → i < n → least i p ≡ none → p i ≡ true → least n p ≡ some i
+pub least-here : (n : ℕ) (p : ℕ → Bool) (i : ℕ) → i < n → least i p ≡ None → p i ≡ true → least n p ≡ Some i
 least-here n p i l h e = sym (least-of n p (here i l e (go (least i p) (least-is i p) h)))
   where
-    go : (o : Option ℕ) → Least i p o → o ≡ none → (j : ℕ) → j < i → p j ≡ false
+    go : (o : Option ℕ) → Least i p o → o ≡ None → (j : ℕ) → j < i → p j ≡ false
     go o (here j m f k) z = let q : ◌≡◌ {A = ℕ} 0 1 = cc in absurd (omega arith)
     go o (nowhere k) z = k
 
@@ -77,9 +77,9 @@ all-says n p = go (any n (λ i. not (p i))) (any-says n (λ i. not (p i)))
 
 found-or : (n : ℕ) (o : Option ℕ) (b : Bool) → found (or_else o b n) ≡ (found o || b)
 unfolding found or_else
-found-or n (some i) b = refl
-found-or n none true = refl
-found-or n none false = refl
+found-or n (Some i) b = refl
+found-or n None true = refl
+found-or n None false = refl
 
 pub any-suc : (n : ℕ) (p : ℕ → Bool) → any (suc n) p ≡ (any n p || p n)
 unfolding any least
@@ -97,13 +97,9 @@ pub all-suc : (n : ℕ) (p : ℕ → Bool) → all (suc n) p ≡ (all n p && p n
 unfolding all
 all-suc n p = rw (any-suc n (λ i. not (p i)), not-or, not-not)
 
--- a loop that tests all
 pub all_none : (p : ℕ → Bool) → all 0 p ≡ true
 unfolding all any least found
 all_none p = refl
-
-pub all_more : (n : ℕ) (p : ℕ → Bool) → all n p ≡ true → p n ≡ true → all (n + 1) p ≡ true
-all_more n p h e = rw (add-one, all-suc, h, e)
 
 pub all-stop : (n : ℕ) (p : ℕ → Bool) (i : ℕ) → i < n → p i ≡ false → all n p ≡ false
 all-stop n p i l e = fails (all-says n p) (λ h. clash (h i l) e)

@@ -4,40 +4,36 @@ use mathlib.Core.Path.{◌≡◌, refl}
 use mathlib.Core.Bool.{Bool}
 use mathlib.Core.List.{List}
 use lib.Seq.{sets}
+use Rattle.std.specs.Prelude.{Option, Result}
+use Rattle.answers.proofs.Said.{said_as_once}
 use Rattle.answers.proofs.Unique.{only}
-use Rattle.sets.specs.Sets.{Set, member, within, sound, meet, join, minus, with, without, count, smallest, in_range, quad}
-use Rattle.sets.specs.Said.{said, Answers, IsFull}
+use Rattle.answers.specs.declared.Refusal.{Refusal}
+use Rattle.sets.specs.Sets.{Set, member, within, sound, meet, join, minus, with, without, full, count, smallest, in_range, size_refusal, quad}
+use Rattle.sets.specs.Said.{Answers}
 use Rattle.sets.specs.declared.StateSet.{StateSet}
-use Rattle.sets.specs.declared.SetAnswer.{SetAnswer}
-use Rattle.sets.specs.declared.Smallest.{Smallest}
-use Rattle.sets.specs.declared.Smallest.TheVariants.{Member, Nothing}
 
 -- a promise of a set's words
 pub only_set : {w : Set} {x y : StateSet} → x.words ≡ w → y.words ≡ w → x ≡ y
 only_set p q = λ i. record { words = only p q i }
 
 -- a promise of a refusal or a set
-pub answers_once : {no : ℕ} {result : Set} {a b : SetAnswer} → Answers no result a → Answers no result b → a ≡ b
-answers_once p q = λ i. record { refusal = only p.refusal q.refusal i; set = only_set p.set q.set i }
-
--- no two answers of `smallest` say the same
-pub said-one : (a b : Smallest) → said a ≡ said b → a ≡ b
-said-one (Member s) (Member u) e = let q : s ≡ u = cc in rw q
-said-one (Member s) Nothing e = cc
-said-one Nothing (Member u) e = cc
-said-one Nothing Nothing e = refl
+pub answers_once : {no : ℕ} {set : Set} {a b : Result StateSet Refusal} → Answers no set a → Answers no set b → a ≡ b
+answers_once {no} {set} {a} {b} p q = said_as_once (λ x. x.words) (λ x y e. only_set e refl) a b (only p.answer q.answer)
 
 pub range_once : (N : ℕ) {a b : Bool} → a ≡ in_range N → b ≡ in_range N → a ≡ b
 range_once N = only
 
-pub full-once : (n : ℕ) {a b : SetAnswer} → IsFull n a → IsFull n b → a ≡ b
-full-once n p q = λ i. record { refusal = only p.refusal q.refusal i; set = only_set p.set q.set i }
+pub full-once : (n : ℕ) {a b : Result StateSet Refusal} → Answers (size_refusal n) (full n) a → Answers (size_refusal n) (full n) b → a ≡ b
+full-once n = answers_once
+
+pub below_once : (n : ℕ) {a b : StateSet} → a.words ≡ full n → b.words ≡ full n → a ≡ b
+below_once n = only_set
 
 pub count-once : (x : Set) {a b : ℕ} → a ≡ count 256 x → b ≡ count 256 x → a ≡ b
 count-once x = only
 
-pub smallest-once : (x : Set) {a b : Smallest} → said a ≡ smallest x → said b ≡ smallest x → a ≡ b
-smallest-once x {a} {b} p q = said-one a b (only p q)
+pub smallest-once : (x : Set) {a b : Option ℕ} → a ≡ smallest x → b ≡ smallest x → a ≡ b
+smallest-once x = only
 
 pub member-once : (x : Set) (s : ℕ) {a b : Bool} → a ≡ member x s → b ≡ member x s → a ≡ b
 member-once x s = only

@@ -7,7 +7,7 @@ use mathlib.Core.Path.{◌≡◌, refl, sym, ap, ap₂, ◌∙◌}
 use mathlib.Core.Logic.{◌⊎◌, inl, inr, ◌≢◌}
 use mathlib.Core.Bool.{Bool, true, false, not, ◌&&◌, ◌||◌, or-false, and-true}
 use mathlib.Core.List.{List, [], ◌∷◌}
-use mathlib.Core.Option.{some, none}
+use Rattle.std.specs.Prelude.{Some, None}
 use borrow.Author.Tests.{eq-eqb, ne_eqb}
 use lib.Bits.{bit_and, bit_or, and_lt, or_lt, and_mask, and_le_r, or_add_and, or_comm}
 use lib.Count.{ones, count_trailing_zeros}
@@ -284,7 +284,7 @@ module _ (x : Set) (n z : ℕ) (e : z ≡ count_trailing_zeros 64 (get_or x n 0)
   unfolding Clear
   clear_more h s l = in_word s (omega arith)
 
-  here_is : (v : ℕ) → v ≡ n * 64 + z → n < 4 → z < 64 → some v ≡ smallest x
+  here_is : (v : ℕ) → v ≡ n * 64 + z → n < 4 → z < 64 → Some v ≡ smallest x
   unfolding smallest
   here_is v q m h = least-of 256 (member x) (here v (omega arith) (ap (member x) q ∙ member-word x n z h ∙ f.there h) (λ s l. in_word s (omega arith)))
 
@@ -293,31 +293,31 @@ module _ (x : Set) (a : ℕ) (pa : a ≡ count_trailing_zeros 64 (get_or x 0 0))
   unfolding Clear
   c0 s l = absurd (omega arith)
 
-  pub smallest-0 : a < 64 → some a ≡ smallest x
+  pub smallest-0 : a < 64 → Some a ≡ smallest x
   smallest-0 = here_is x 0 a pa c0 a (omega arith) (omega arith)
 
   module _ (ha : 64 ≤ a) (b : ℕ) (pb : b ≡ count_trailing_zeros 64 (get_or x 1 0)) where
     c1 : Clear x 1
     c1 = clear_more x 0 a pa c0 ha
 
-    pub smallest-1 : b < 64 → some (64 + b) ≡ smallest x
+    pub smallest-1 : b < 64 → Some (64 + b) ≡ smallest x
     smallest-1 = here_is x 1 b pb c1 (64 + b) (omega arith) (omega arith)
 
     module _ (hb : 64 ≤ b) (d : ℕ) (pd : d ≡ count_trailing_zeros 64 (get_or x 2 0)) where
       c2 : Clear x 2
       c2 = clear_more x 1 b pb c1 hb
 
-      pub smallest-2 : d < 64 → some (128 + d) ≡ smallest x
+      pub smallest-2 : d < 64 → Some (128 + d) ≡ smallest x
       smallest-2 = here_is x 2 d pd c2 (128 + d) (omega arith) (omega arith)
 
       module _ (hd : 64 ≤ d) (e : ℕ) (pe : e ≡ count_trailing_zeros 64 (get_or x 3 0)) where
         c3 : Clear x 3
         c3 = clear_more x 2 d pd c2 hd
 
-        pub smallest-3 : e < 64 → some (192 + e) ≡ smallest x
+        pub smallest-3 : e < 64 → Some (192 + e) ≡ smallest x
         smallest-3 = here_is x 3 e pe c3 (192 + e) (omega arith) (omega arith)
 
-        pub smallest-nothing : 64 ≤ e → none ≡ smallest x
+        pub smallest-nothing : 64 ≤ e → None ≡ smallest x
         unfolding smallest Clear
         smallest-nothing he = least-of 256 (member x) (nowhere (clear_more x 3 e pe c3 he))
 

@@ -1,23 +1,15 @@
--- The values of document 01 for each case of an answer that is an enum, and the promise of an answer that has parts.
-use Rattle.std.specs.Prelude.{ℕ, cond, ◌≡◌, eqb}
-use Rattle.std.proofs.Math.Option.{Option, none, some}
-use Rattle.answers.specs.Refusals.{no_refusal}
-use Rattle.sets.specs.Sets.{Set, empty, full, in_range, size_refusal}
-use Rattle.sets.specs.declared.Smallest.{Smallest}
-use Rattle.sets.specs.declared.Smallest.TheVariants.{Member, Nothing}
-use Rattle.sets.specs.declared.SetAnswer.{SetAnswer}
+-- What a call says that answers a set.
+use Rattle.std.specs.Prelude.{ℕ, Result, ◌≡◌}
+use Rattle.answers.specs.Answer.{Answer, unless_refused}
+use Rattle.answers.specs.Said.{said_as}
+use Rattle.answers.specs.declared.Refusal.{Refusal}
+use Rattle.sets.specs.Sets.{Set}
+use Rattle.sets.specs.declared.StateSet.{StateSet}
 
--- a member; the answer of its own for the empty set
-abbrev pub said : Smallest → Option ℕ
-said (Member s) = some s
-said Nothing = none
+-- the set's words, or the refusal's number
+abbrev pub said_set : Result StateSet Refusal → Answer Set
+said_set = said_as (λ x. x.words)
 
--- a refusal's number, 0 for none, and a set, the empty one where refused
-pub record Answers (refusal_is : ℕ) (result : Set) (r : SetAnswer) : Type 0 where
-  pub refusal : r.refusal ≡ refusal_is
-  pub set : r.set.words ≡ cond (eqb refusal_is no_refusal) result empty
-
--- the full set of N states, or refusal 2 and the empty set
-pub record IsFull (N : ℕ) (r : SetAnswer) : Type 0 where
-  pub refusal : r.refusal ≡ size_refusal N
-  pub set : r.set.words ≡ cond (in_range N) (full N) empty
+-- a set, unless there is a refusal, 0 for none
+pub record Answers (refusal_is : ℕ) (set_is : Set) (r : Result StateSet Refusal) : Type 0 where
+  pub answer : said_set r ≡ unless_refused refusal_is set_is

@@ -1,21 +1,21 @@
 -- Searching the numbers below a bound by a test: the least that passes, whether any or all pass, and a sum over them.
 use Rattle.std.specs.Prelude.{ℕ, zero, suc, ◌+◌, Bool, true, false, not}
-use Rattle.std.proofs.Math.Option.{Option, none, some}
+use Rattle.std.specs.Prelude.{Option, None, Some}
 
 -- what was found before, or else n where n passes
 unfoldable pub or_else : Option ℕ → Bool → ℕ → Option ℕ
-or_else (some i) b n = some i
-or_else none true n = some n
-or_else none false n = none
+or_else (Some i) b n = Some i
+or_else None true n = Some n
+or_else None false n = None
 
 -- the least number below n that passes a test
 unfoldable pub least : ℕ → (ℕ → Bool) → Option ℕ
-least zero p = none
+least zero p = None
 least (suc n) p = or_else (least n p) (p n) n
 
 unfoldable pub found : Option ℕ → Bool
-found (some i) = true
-found none = false
+found (Some i) = true
+found None = false
 
 -- some number below n passes
 unfoldable pub any : ℕ → (ℕ → Bool) → Bool

@@ -1,7 +1,7 @@
 -- Sets of states, as document 01 has them: four 64-bit words; state s is bit s mod 64 of word s div 64.
 use Rattle.std.specs.Prelude.{ℕ, zero, suc, ◌+◌, ◌-◌, ◌*◌, ◌/◌, ◌%◌, ◌^◌, ◌<◌, min}
 use Rattle.std.specs.Prelude.{Bool, true, false, not, ◌&&◌, ◌||◌, cond, List, [], ◌∷◌, ◌≡◌, eqb, leb, ltb, get_or}
-use Rattle.std.proofs.Math.Option.{Option}
+use Rattle.std.specs.Prelude.{Option}
 use Rattle.answers.specs.Refusals.{no_refusal, out_of_range}
 use Rattle.sets.specs.Search.{least, all, sum}
 

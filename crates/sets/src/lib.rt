@@ -6,35 +6,23 @@
 
 ghost use Rattle.std.specs.Prelude.{◌≡◌};
 ghost use Rattle.std.proofs.lemmas.List.Edits.{sets};
-ghost use Rattle.sets.specs.Sets.{member, within, sound, meet, join, minus, with, without, count, smallest, in_range, quad};
-ghost use Rattle.sets.specs.Said.{said, IsFull};
+ghost use Rattle.sets.specs.Sets.{member, within, sound, meet, join, minus, with, without, count, full, smallest, in_range, size_refusal, quad};
+ghost use Rattle.sets.specs.Said.{Answers};
+
+use answers::Refusal;
 
 mod word;
 
-#[derive(Clone, Copy)]
+#[derive(Clone, Copy, Debug, PartialEq, Eq)]
 pub struct StateSet {
     pub words: [u64; 4],
-}
-
-// What a call that makes a set answers: a refusal number, 0 for none, and the set, empty where refused.
-#[derive(Clone, Copy)]
-pub struct SetAnswer {
-    pub refusal: u8,
-    pub set: StateSet,
-}
-
-// What `smallest` answers.
-#[derive(Clone, Copy)]
-pub enum Smallest {
-    Member(u16),
-    Nothing,
 }
 
 // Whether N is 1 to 256.
 pub fn in_range(size: u16) -> bool
     ensures { result ≡ in_range size }
 {
-    if size < 1 { false } else { size <= 256 }
+    1 <= size && size <= 256
 }
 
 impl StateSet {
@@ -42,28 +30,27 @@ impl StateSet {
         words: [0, 0, 0, 0],
     };
 
-    // The full set of N states; refused with 2 for an N outside 1 to 256.
-    pub fn full(size: u16) -> SetAnswer
-        ensures { IsFull size result }
+    // The full set of N states; refused for an N outside 1 to 256.
+    pub fn full(size: u16) -> Result<StateSet, Refusal>
+        ensures { Answers (size_refusal size) (full size) result }
     {
         if !in_range(size) {
-            let none = StateSet::EMPTY;
-            return SetAnswer {
-                refusal: answers::OUT_OF_RANGE,
-                set: none,
-            };
+            return Err(Refusal::OutOfRange);
         }
-        let set = StateSet {
+        Ok(StateSet::below(size))
+    }
+
+    // The set of the states below N: empty for 0, all 256 from 256 up.
+    pub fn below(size: u16) -> StateSet
+        ensures { result.words ≡ full size }
+    {
+        StateSet {
             words: [
                 word::ones(size, 0),
                 word::ones(size, 64),
                 word::ones(size, 128),
                 word::ones(size, 192),
             ],
-        };
-        SetAnswer {
-            refusal: answers::NO_REFUSAL,
-            set,
         }
     }
 
@@ -78,27 +65,27 @@ impl StateSet {
         n as u16
     }
 
-    // The smallest member, or Nothing for the empty set.
-    pub fn smallest(self) -> Smallest
-        ensures { said result ≡ smallest self.words }
+    // The smallest member; the empty set has none.
+    pub fn smallest(self) -> Option<u16>
+        ensures { result ≡ smallest self.words }
     {
         let a = word::first(self.words[0]);
         if a < 64 {
-            return Smallest::Member(a);
+            return Some(a);
         }
         let b = word::first(self.words[1]);
         if b < 64 {
-            return Smallest::Member(64 + b);
+            return Some(64 + b);
         }
         let c = word::first(self.words[2]);
         if c < 64 {
-            return Smallest::Member(128 + c);
+            return Some(128 + c);
         }
         let d = word::first(self.words[3]);
         if d < 64 {
-            return Smallest::Member(192 + d);
+            return Some(192 + d);
         }
-        Smallest::Nothing
+        None
     }
 
     // Whether s is a member; no number from 256 up is one.
@@ -130,9 +117,7 @@ impl StateSet {
         if 256 <= size {
             return true;
         }
-        let r = StateSet::full(size);
-        let all = r.set;
-        self.within(all)
+        self.within(StateSet::below(size))
     }
 
     // The members of both.
@@ -203,12 +188,10 @@ impl StateSet {
     pub fn read(b: &[u64], at: usize) -> StateSet
         ensures { result.words ≡ quad b.now at }
     {
-        if 4 <= b.len() {
-            if at <= b.len() - 4 {
-                return StateSet {
-                    words: [b[at], b[at + 1], b[at + 2], b[at + 3]],
-                };
-            }
+        if 4 <= b.len() && at <= b.len() - 4 {
+            return StateSet {
+                words: [b[at], b[at + 1], b[at + 2], b[at + 3]],
+            };
         }
         StateSet {
             words: [
@@ -224,25 +207,18 @@ impl StateSet {
     pub fn write(self, b: &mut [u64], at: usize)
         ensures { b.new ≡ sets b.old at self.words }
     {
-        if 4 <= b.len() {
-            if at <= b.len() - 4 {
-                b[at] = self.words[0];
-                b[at + 1] = self.words[1];
-                b[at + 2] = self.words[2];
-                b[at + 3] = self.words[3];
-                return;
-            }
+        if 4 <= b.len() && at <= b.len() - 4 {
+            b[at] = self.words[0];
+            b[at + 1] = self.words[1];
+            b[at + 2] = self.words[2];
+            b[at + 3] = self.words[3];
+            return;
         }
-        let mut k = 0;
-        while k < 4 {
-            if b.len() <= at {
-                return;
-            }
-            if b.len() - at <= k {
+        for k in 0..4 {
+            if b.len() <= at || b.len() - at <= k {
                 return;
             }
             b[at + k] = self.words[k];
-            k += 1;
         }
     }
 }

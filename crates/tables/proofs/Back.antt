@@ -83,7 +83,7 @@ module _ (K : Kind) (top : ℕ) (W : Inverse K top) (b : List ℕ) where
       let q : at + suc (length vs) * K.width ≡ at + K.width + length vs * K.width = omega arith in
       let next : ℕ → Taken (List ℕ) = λ w. and_then (entries K b (at + K.width) (suc w) (length vs)) (λ ws. taken (w ∷ ws)) in
       record {
-        same = entry-taken K b at low next room (rw is g) (rw is l) ∙ rw (is, r.same);
+        same = sym (ap (λ (x : Taken ℕ). and_then x next) (entry-taken K b at low room (rw is g) (rw is l))) ∙ rw (is, r.same);
         ends = rw q r.ends;
       }
 
@@ -128,7 +128,7 @@ module _ (S : Section) (top : ℕ) (W : Inverse S.kind top) (b : List ℕ) where
       one_entry K at v q = go (entry K b at 0) q
         where
           go : (x : Taken ℕ) → and_then x (λ v. and_then (taken []) (λ vs. taken (v ∷ vs))) ≡ taken (v ∷ []) → x ≡ taken v
-          go (refused_at r a) q = let z : ◌≡◌ {A = ℕ} 0 1 = cc in absurd (omega arith)
+          go (refused_at r a) q = cc
           go (taken w) q = let z : w ≡ v = cc in rw z
 
 -- ---- files

@@ -1,94 +1,92 @@
--- The counts of a whole file, section by section, as the code takes them: s₁ to s₄ are what taking the sections gives.
+-- The counts of a whole file, section by section, as the code takes them: s₁ to s₄ are what taking the sections gives, t₁ to t₄ what was taken.
 use Prim.Native.Nat.{ℕ, ◌≤◌, ◌<◌}
 use mathlib.Core.List.{List}
-use mathlib.Core.Path.{◌≡◌, ap, ◌∙◌}
+use mathlib.Core.Path.{◌≡◌}
 use borrow.Author.Tests.{lt-ltb, le-ltb}
 use lib.ListN.{length}
-use Rattle.tables.specs.Format.{states, numbers, moves, number, move, section_number, refused_at, taken, and_then, past, ending, contents}
+use Rattle.std.specs.Prelude.{Result, Ok, Err}
+use Rattle.answers.specs.Said.{number_of}
+use Rattle.tables.specs.Format.{states, numbers, moves, number, move, refused_at, taken, and_then, past, ending, contents}
 use Rattle.tables.specs.Said.{said, section_step}
-use Rattle.tables.specs.Inner.{said_counted, counts_read, refused_of}
-use Rattle.tables.specs.declared.Step.{Step}
-use Rattle.tables.specs.declared.Step.TheVariants as step
-use Rattle.tables.specs.declared.counts.Counted.{Counted}
+use Rattle.tables.specs.Inner.{counts_read}
+use Rattle.tables.specs.declared.Fault.{Fault}
+use Rattle.tables.specs.declared.Taken as code
 use Rattle.tables.proofs.Taking.{Took, took_it, refused_it}
 
--- the refusal of a section, handed on
-handed : (s : Step) (r : Counted) (k a : ℕ) → s ≡ step.Refused k a → r ≡ refused_of s → said_counted r ≡ refused_at k a
-handed s r k a e q = ap said_counted q ∙ rw e
+-- a section by its number that was not taken, or was
+abbrev Answered : Type 0
+Answered = Result code.Taken Fault
 
-module _ (b : List ℕ) (s₁ : Step) (e₁ : said s₁ ≡ section_step (section_number 1 0) b 0) where
-  pub stop-1 : (k a : ℕ) → s₁ ≡ step.Refused k a → (r : Counted) → r ≡ refused_of s₁ → said_counted r ≡ counts_read b
-  unfolding counts_read contents and_then section_number
-  stop-1 k a q r h = handed s₁ r k a q h ∙ rw (refused_it states b 0 s₁ e₁ k a q)
+module _ (b : List ℕ) (s₁ : Answered) (e₁ : said s₁ ≡ section_step states b 0) where
+  pub stop-1 : (f : Fault) → s₁ ≡ Err f → refused_at (number_of f.refusal) f.offset ≡ counts_read b
+  unfolding counts_read contents and_then
+  stop-1 f q = rw (refused_it states b 0 s₁ e₁ f q)
 
-  module _ (N at₂ : ℕ) (q₁ : s₁ ≡ step.Number N at₂) (s₂ : Step) (e₂ : said s₂ ≡ section_step (section_number 2 N) b at₂) where
-    t1 : Took states b 0 N at₂
-    unfolding section_number
-    t1 = took_it states b 0 s₁ e₁ N at₂ q₁
+  module _ (t₁ : code.Taken) (q₁ : s₁ ≡ Ok t₁) (s₂ : Answered) (e₂ : said s₂ ≡ section_step (numbers t₁.number) b t₁.next) where
+    abbrev N : ℕ
+    N = t₁.number
 
-    pub stop-2 : (k a : ℕ) → s₂ ≡ step.Refused k a → (r : Counted) → r ≡ refused_of s₂ → said_counted r ≡ counts_read b
-    unfolding counts_read contents and_then section_number
-    stop-2 k a q r h = handed s₂ r k a q h ∙ rw (t1.is, ← t1.many, ← t1.place, refused_it (numbers N) b at₂ s₂ e₂ k a q)
+    k1 : Took states b 0 N t₁.next
+    k1 = took_it states b 0 s₁ e₁ t₁ q₁
 
-    module _ (i at₃ : ℕ) (q₂ : s₂ ≡ step.Number i at₃) (s₃ : Step) (e₃ : said s₃ ≡ section_step (section_number 3 N) b at₃) where
-      t2 : Took (numbers N) b at₂ i at₃
-      unfolding section_number
-      t2 = took_it (numbers N) b at₂ s₂ e₂ i at₃ q₂
+    pub stop-2 : (f : Fault) → s₂ ≡ Err f → refused_at (number_of f.refusal) f.offset ≡ counts_read b
+    unfolding counts_read contents and_then
+    stop-2 f q = rw (k1.is, ← k1.many, ← k1.place, refused_it (numbers N) b t₁.next s₂ e₂ f q)
 
-      place3 : at₃ ≡ past (number 0) at₂ t2.values
+    module _ (t₂ : code.Taken) (q₂ : s₂ ≡ Ok t₂) (s₃ : Answered) (e₃ : said s₃ ≡ section_step (numbers N) b t₂.next) where
+      k2 : Took (numbers N) b t₁.next t₂.number t₂.next
+      k2 = took_it (numbers N) b t₁.next s₂ e₂ t₂ q₂
+
+      place3 : t₂.next ≡ past (number 0) t₁.next k2.values
       unfolding past
-      place3 = t2.place
+      place3 = k2.place
 
-      pub stop-3 : (k a : ℕ) → s₃ ≡ step.Refused k a → (r : Counted) → r ≡ refused_of s₃ → said_counted r ≡ counts_read b
-      unfolding counts_read contents and_then section_number
-      stop-3 k a q r h =
-          handed s₃ r k a q h ∙ rw (t1.is, ← t1.many, ← t1.place, t2.is, ← place3, refused_it (numbers N) b at₃ s₃ e₃ k a q)
+      pub stop-3 : (f : Fault) → s₃ ≡ Err f → refused_at (number_of f.refusal) f.offset ≡ counts_read b
+      unfolding counts_read contents and_then
+      stop-3 f q = rw (k1.is, ← k1.many, ← k1.place, k2.is, ← place3, refused_it (numbers N) b t₂.next s₃ e₃ f q)
 
-      module _ (p at₄ : ℕ) (q₃ : s₃ ≡ step.Number p at₄) (s₄ : Step) (e₄ : said s₄ ≡ section_step (section_number 4 N) b at₄) where
-        t3 : Took (numbers N) b at₃ p at₄
-        unfolding section_number
-        t3 = took_it (numbers N) b at₃ s₃ e₃ p at₄ q₃
+      module _ (t₃ : code.Taken) (q₃ : s₃ ≡ Ok t₃) (s₄ : Answered) (e₄ : said s₄ ≡ section_step (moves N) b t₃.next) where
+        k3 : Took (numbers N) b t₂.next t₃.number t₃.next
+        k3 = took_it (numbers N) b t₂.next s₃ e₃ t₃ q₃
 
-        place4 : at₄ ≡ past (number 0) at₃ t3.values
+        place4 : t₃.next ≡ past (number 0) t₂.next k3.values
         unfolding past
-        place4 = t3.place
+        place4 = k3.place
 
-        pub stop-4 : (k a : ℕ) → s₄ ≡ step.Refused k a → (r : Counted) → r ≡ refused_of s₄ → said_counted r ≡ counts_read b
-        unfolding counts_read contents and_then section_number
-        stop-4 k a q r h =
-            handed s₄ r k a q h
-            ∙ rw (t1.is, ← t1.many, ← t1.place, t2.is, ← place3, t3.is, ← place4, refused_it (moves N) b at₄ s₄ e₄ k a q)
+        pub stop-4 : (f : Fault) → s₄ ≡ Err f → refused_at (number_of f.refusal) f.offset ≡ counts_read b
+        unfolding counts_read contents and_then
+        stop-4 f q =
+            rw (k1.is, ← k1.many, ← k1.place, k2.is, ← place3, k3.is, ← place4, refused_it (moves N) b t₃.next s₄ e₄ f q)
 
-        module _ (m end : ℕ) (q₄ : s₄ ≡ step.Number m end) where
-          t4 : Took (moves N) b at₄ m end
-          unfolding section_number
-          t4 = took_it (moves N) b at₄ s₄ e₄ m end q₄
+        module _ (t₄ : code.Taken) (q₄ : s₄ ≡ Ok t₄) where
+          k4 : Took (moves N) b t₃.next t₄.number t₄.next
+          k4 = took_it (moves N) b t₃.next s₄ e₄ t₄ q₄
 
-          place5 : end ≡ past (move 0) at₄ t4.values
+          place5 : t₄.next ≡ past (move 0) t₃.next k4.values
           unfolding past
-          place5 = t4.place
+          place5 = k4.place
 
-          pub stop-5 : end < length b → refused_at 6 end ≡ counts_read b
+          pub stop-5 : t₄.next < length b → refused_at 6 t₄.next ≡ counts_read b
           unfolding counts_read contents and_then ending
           stop-5 l =
-              rw (t1.is, ← t1.many, ← t1.place, t2.is, ← place3, t3.is, ← place4, t4.is, ← place5, lt-ltb end (length b) l)
+              rw (k1.is, ← k1.many, ← k1.place, k2.is, ← place3, k3.is, ← place4, k4.is, ← place5, lt-ltb t₄.next (length b) l)
 
-          pub all-taken : length b ≤ end → taken (N, i, p, m) ≡ counts_read b
+          pub all-taken : length b ≤ t₄.next → taken (N, t₂.number, t₃.number, t₄.number) ≡ counts_read b
           unfolding counts_read contents and_then ending
           all-taken l =
               rw (
-                t1.is,
-                ← t1.many,
-                ← t1.place,
-                t2.is,
+                k1.is,
+                ← k1.many,
+                ← k1.place,
+                k2.is,
                 ← place3,
-                t3.is,
+                k3.is,
                 ← place4,
-                t4.is,
+                k4.is,
                 ← place5,
-                le-ltb end (length b) l,
-                ← t1.many,
-                ← t2.many,
-                ← t3.many,
-                ← t4.many,
+                le-ltb t₄.next (length b) l,
+                ← k1.many,
+                ← k2.many,
+                ← k3.many,
+                ← k4.many,
               )

@@ -1,23 +1,27 @@
 -- A file that was taken: its four sections, where they stand, and what `read` makes of them.
 use Prim.Native.Nat.{ℕ, ◌+◌, ◌*◌, ◌≤◌}
-use native.Mathlib.Omega.{arith}
 use mathlib.Core.Path.{◌≡◌, refl, sym, ap, ◌∙◌}
-use mathlib.Core.Bool.{Bool, true, false, not, cond}
+use mathlib.Core.Bool.{Bool, true, false, cond}
 use mathlib.Core.List.{List}
-use borrow.Author.Tests.{ltb-false, eqb-true, eq-eqb, ne_eqb, not-true, not-false}
+use borrow.Author.Tests.{ltb-false, eqb-true}
 use lib.Dec.{eqb, ltb}
 use lib.IntN.{ℤ}
 use lib.ListN.{length}
+use Rattle.std.specs.Prelude.{Result, Ok, Err, IsErrAnd}
+use Rattle.answers.specs.declared.Refusal.TheVariants.{WrongLength}
+use Rattle.moves.specs.Models.{control}
+use Rattle.rules.specs.Table.{Table}
 use Rattle.sets.proofs.Tests.{and-true}
 use Rattle.tables.specs.Format.{states, numbers, moves, state, number, move, Contents, Taken, refused_at, taken, and_then, past, ending, contents}
 pub use Rattle.tables.specs.Format.{at2, at3, at4, at5}
 use Rattle.tables.specs.Control.{set_of_entries, rows_of_entries, angles_of_entries, modes_of_entries, control_of, sized, reading}
-use Rattle.tables.specs.Said.{number_of, offset_of, Read}
-use Rattle.tables.specs.Inner.{Lengths, said_counted, counts_of, counts_read, Blank, values, Fillable}
-use Rattle.tables.specs.declared.counts.Counted.{Counted}
-use Rattle.tables.specs.declared.counts.Counted.TheVariants as counted
+use Rattle.tables.specs.Said.{said_reading, Read}
+use Rattle.tables.specs.Inner.{Lengths, said_counts, counts_of, counts_read, values, Fillable}
+use Rattle.tables.specs.declared.counts.Counts.{Counts}
+use Rattle.tables.specs.declared.Fault.{Fault}
 use Rattle.tables.specs.declared.Reading.{Reading}
 use Rattle.tables.proofs.Sections.{Whole, section-is}
+use Rattle.tables.proofs.Taking.{same_taken, err_is}
 
 -- one thing after another, where all was taken
 pub record Got {A B : Type 0} (x : Taken A) (f : A → Taken B) (c : B) : Type 0 where
@@ -27,7 +31,7 @@ pub record Got {A B : Type 0} (x : Taken A) (f : A → Taken B) (c : B) : Type 0
 
 pub then_taken : {A B : Type 0} (x : Taken A) (f : A → Taken B) (c : B) → and_then x f ≡ taken c → Got x f c
 unfolding and_then
-then_taken (refused_at k at) f c e = let z : ◌≡◌ {A = ℕ} 0 1 = cc in absurd (omega arith)
+then_taken (refused_at k at) f c e = cc
 then_taken (taken a) f c e = record { value = a; is = refl; next = e }
 
 -- ---- the sections of a file that was taken
@@ -43,7 +47,7 @@ unfolding ending
 ended b at l k e = go (ltb at (length b)) refl e
   where
     go : (t : Bool) → ltb at (length b) ≡ t → cond t (refused_at 6 at) (taken l) ≡ taken k → (length b ≤ at) × (l ≡ k)
-    go true q e = let z : ◌≡◌ {A = ℕ} 0 1 = cc in absurd (omega arith)
+    go true q e = cc
     go false q e = (ltb-false _ _ q, cc)
 
 pub contents-is : (b : List ℕ) (l : Contents) → contents b ≡ taken l → File b l
@@ -107,11 +111,7 @@ of_file b l e f = record {
 
 quadruple : (a b c d n s p m : ℕ) → ◌≡◌ {A = Taken (ℕ × ℕ × ℕ × ℕ)} (taken (a, b, c, d)) (taken (n, s, p, m))
     → (a ≡ n) × (b ≡ s) × (c ≡ p) × (d ≡ m)
-quadruple a b c d n s p m e = (ap (λ t. (get t).0) e, ap (λ t. (get t).1) e, ap (λ t. (get t).2) e, ap (λ t. (get t).3) e)
-  where
-    get : Taken (ℕ × ℕ × ℕ × ℕ) → ℕ × ℕ × ℕ × ℕ
-    get (refused_at k at) = (0, 0, 0, 0)
-    get (taken q) = q
+quadruple a b c d n s p m e = let q = same_taken e in (λ i. (q i).0, λ i. (q i).1, λ i. (q i).2, λ i. (q i).3)
 
 pub by_counts : (b : List ℕ) (size starts safe moves : ℕ) → counts_read b ≡ taken (size, starts, safe, moves) → ByCounts b size starts safe moves
 unfolding counts_read
@@ -123,18 +123,6 @@ by_counts b size starts safe moves e =
 
 -- ---- the lengths of buffers
 module _ (rows : List ℕ) (angles : List ℤ) (modes : List ℕ) where
-  pub no_rows : (length rows ≡ 1024 → ⊥) → false ≡ sized rows angles modes
-  unfolding sized
-  no_rows h = rw (ne_eqb _ _ h)
-
-  pub no_angles : length rows ≡ 1024 → (length angles ≡ 256 → ⊥) → false ≡ sized rows angles modes
-  unfolding sized
-  no_angles e h = rw (eq-eqb _ _ e, ne_eqb _ _ h)
-
-  pub modes_left : length rows ≡ 1024 → length angles ≡ 256 → eqb (length modes) 256 ≡ sized rows angles modes
-  unfolding sized
-  modes_left e f = rw (eq-eqb _ _ e, eq-eqb _ _ f)
-
   module _ (e : sized rows angles modes ≡ true) where
     pub sized_rows : length rows ≡ 1024
     unfolding sized
@@ -149,33 +137,25 @@ module _ (rows : List ℕ) (angles : List ℤ) (modes : List ℕ) where
     sized-modes = eqb-true _ _ (and-true (eqb (length angles) 256) _ (and-true (eqb (length rows) 1024) _ e).1).1
 
   -- r is what the code's test answers
-  pub sized-lengths : (r : Bool) → r ≡ sized rows angles modes → not r ≡ false → Lengths angles modes
-  sized-lengths r e h =
-      let is = sym e ∙ not-false r h in
+  pub sized-lengths : (r : Bool) → r ≡ sized rows angles modes → r ≡ true → (t : Table) → Lengths (control t angles modes)
+  sized-lengths r e h t =
+      let is = sym e ∙ h in
       record { angle_places = sized-angles is; mode_places = sized-modes is }
 
 -- ---- the promise of `read`; t is what the test of the lengths answers, s the counts
 module _ (b rows : List ℕ) (angles : List ℤ) (modes : List ℕ) (t : Bool) (e : t ≡ sized rows angles modes) where
-  refused_read : (r : Reading) (k a : ℕ) → reading b rows angles modes ≡ refused_at k a → Blank k a r → Read b rows angles modes r rows angles modes
-  refused_read r k a q f = record {
-    refusal = rw q f.refusal;
-    offset = rw q f.offset;
-    model_size = rw q f.model_size;
-    starts = rw q f.starts;
-    safe = rw q f.safe;
-    moves = rw q f.moves;
-    filled_rows = rw q;
-    filled_angles = rw q;
-    filled_modes = rw q;
-  }
+  refused_read : (r : Result Reading Fault) (k a : ℕ) → reading b rows angles modes ≡ refused_at k a → said_reading r ≡ refused_at k a
+      → Read b rows angles modes r rows angles modes
+  unfolding and_then
+  refused_read r k a q f = record { answer = rw q f; filled_rows = rw q; filled_angles = rw q; filled_modes = rw q }
 
-  pub read-unsized : (r : Reading) → not t ≡ true → Blank 7 0 r → Read b rows angles modes r rows angles modes
+  pub read-unsized : t ≡ false → (f : Fault) → f ≡ record { refusal = WrongLength; offset = 0 } → Read b rows angles modes (Err f) rows angles modes
   unfolding reading
-  read-unsized r h f = refused_read r 7 0 (rw (sym e ∙ not-true t h)) f
+  read-unsized h f q = refused_read (Err f) 7 0 (rw (sym e ∙ h)) (ap (λ (f : Fault). said_reading (Err f)) q)
 
-  module _ (h : not t ≡ false) (s : Counted) (q : said_counted s ≡ counts_read b) where
+  module _ (h : t ≡ true) (s : Result Counts Fault) (q : said_counts s ≡ counts_read b) where
     ok : sized rows angles modes ≡ true
-    ok = sym e ∙ not-false t h
+    ok = sym e ∙ h
 
     -- the first refusal of a file
     stopped_at : (k a : ℕ) → counts_read b ≡ refused_at k a → reading b rows angles modes ≡ refused_at k a
@@ -184,16 +164,15 @@ module _ (b rows : List ℕ) (angles : List ℤ) (modes : List ℕ) (t : Bool) (
       where
         go : (x : Taken Contents) → and_then {B = ℕ × ℕ × ℕ × ℕ} x (λ l. taken (counts_of l)) ≡ refused_at k a → x ≡ refused_at k a
         go (refused_at k' a') q = cc
-        go (taken l) q = let z : ◌≡◌ {A = ℕ} 0 1 = cc in absurd (omega arith)
+        go (taken l) q = cc
 
-    pub read-stopped : (r : Reading) (k a : ℕ) → s ≡ counted.Refused k a → Blank (number_of (said_counted s)) (offset_of (said_counted s)) r
-        → Read b rows angles modes r rows angles modes
-    read-stopped r k a w f = refused_read r k a (stopped_at k a (sym q ∙ ap said_counted w)) (rw w at f)
+    pub read-stopped : (f : Fault) → s ≡ Err f → (r : Result Reading Fault) → IsErrAnd r (λ e. e ≡ f) → Read b rows angles modes r rows angles modes
+    read-stopped f w r i = refused_read r _ _ (stopped_at _ _ (sym q ∙ ap said_counts w)) (ap said_reading (err_is i))
 
-    pub fillable : (size starts safe moves : ℕ) → s ≡ counted.Counts size starts safe moves → Fillable b size starts safe moves rows angles modes
-    fillable size starts safe moves w =
-        let counts : counts_read b ≡ taken (size, starts, safe, moves) = sym q ∙ ap said_counted w in
-        let file = by_counts b size starts safe moves counts in
+    pub fillable : (c : Counts) → s ≡ Ok c → Fillable b c rows angles modes
+    fillable c w =
+        let counts : counts_read b ≡ taken (c.size, c.starts, c.safe, c.moves) = sym q ∙ ap said_counts w in
+        let file = by_counts b c.size c.starts c.safe c.moves counts in
         record {
           counted = counts;
           lengths = ok;
@@ -206,31 +185,28 @@ module _ (b rows : List ℕ) (angles : List ℤ) (modes : List ℕ) (t : Bool) (
         }
 
 -- a file that was taken
-module _ (b : List ℕ) (size starts safe moves : ℕ) (rows : List ℕ) (angles : List ℤ) (modes : List ℕ)
-    (f : Fillable b size starts safe moves rows angles modes) where
-  pub read-filled : (r : Reading) → r.refusal ≡ 0 → r.offset ≡ 0 → r.model.size ≡ size
-      → r.model.starts.words ≡ set_of_entries (values (number 0) b (starts_from size) starts)
-      → r.model.safe.words ≡ set_of_entries (values (number 0) b (safe_from size starts) safe)
-      → r.moves ≡ moves
-      → (rows' : List ℕ) → rows' ≡ rows_of_entries (values (move 0) b (moves_from size starts safe) moves)
-      → (angles' : List ℤ) → angles' ≡ angles_of_entries (values state b 2 size)
-      → (modes' : List ℕ) → modes' ≡ modes_of_entries (values state b 2 size)
-      → Read b rows angles modes r rows' angles' modes'
-  unfolding control_of reading
-  read-filled r k o n i p m rows' t angles' u modes' v =
-      let c = by_counts b size starts safe moves f.counted in
-      let w : reading b rows angles modes ≡ taken c.holds = whole f.lengths c.is in
+module _ (b : List ℕ) (c : Counts) (rows : List ℕ) (angles : List ℤ) (modes : List ℕ) (f : Fillable b c rows angles modes) where
+  pub read-filled : (r : Reading) → r.model.size ≡ c.size
+      → r.model.starts.words ≡ set_of_entries (values (number 0) b (starts_from c.size) c.starts)
+      → r.model.safe.words ≡ set_of_entries (values (number 0) b (safe_from c.size c.starts) c.safe)
+      → r.moves ≡ c.moves
+      → (rows' : List ℕ) → rows' ≡ rows_of_entries (values (move 0) b (moves_from c.size c.starts c.safe) c.moves)
+      → (angles' : List ℤ) → angles' ≡ angles_of_entries (values state b 2 c.size)
+      → (modes' : List ℕ) → modes' ≡ modes_of_entries (values state b 2 c.size)
+      → Read b rows angles modes (Ok r) rows' angles' modes'
+  unfolding control_of reading and_then
+  read-filled r n i p m rows' t angles' u modes' v =
+      let l = by_counts b c.size c.starts c.safe c.moves f.counted in
+      let w : reading b rows angles modes ≡ taken l.holds = rw (f.lengths, l.is) in
       record {
-        refusal = rw w k;
-        offset = rw w o;
-        model_size = rw w (n ∙ sym c.many_states);
-        starts = rw w (i ∙ ap set_of_entries (sym c.start-entries));
-        safe = rw w (p ∙ ap set_of_entries (sym c.safe_entries));
-        moves = rw w (m ∙ sym c.many_moves);
-        filled_rows = rw w (t ∙ ap rows_of_entries (sym c.move-entries));
-        filled_angles = rw w (u ∙ ap angles_of_entries (sym c.state-entries));
-        filled_modes = rw w (v ∙ ap modes_of_entries (sym c.state-entries));
+        answer = rw (
+          w,
+          n ∙ sym l.many_states,
+          i ∙ ap set_of_entries (sym l.start-entries),
+          p ∙ ap set_of_entries (sym l.safe_entries),
+          m ∙ sym l.many_moves,
+        );
+        filled_rows = rw w (t ∙ ap rows_of_entries (sym l.move-entries));
+        filled_angles = rw w (u ∙ ap angles_of_entries (sym l.state-entries));
+        filled_modes = rw w (v ∙ ap modes_of_entries (sym l.state-entries));
       }
-    where
-      whole : {l : Contents} → sized rows angles modes ≡ true → contents b ≡ taken l → reading b rows angles modes ≡ taken l
-      whole x y = rw x y

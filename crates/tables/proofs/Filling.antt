@@ -8,11 +8,7 @@ use mathlib.Core.List.{List, [], ◌∷◌, ◌++◌}
 use borrow.Author.Tests.{eq-eqb, ne_eqb}
 use lib.Dec.{eqb}
 use lib.IntN.{ℤ, pos}
-use lib.Signed.{mag}
-use mir.Syntax.{w16}
-use mir.Val.{to_z, of_z}
-use mir.ValLaws.{to_z-of_z}
-use lib.ListN.{length, get_or, set}
+use lib.ListN.{length, get_or, set, replicate}
 use lib.Seq.{sets, length-sets, ext_get_or}
 use Rattle.rules.proofs.Rows.{length-rows_of, rows_of-at, row_of}
 use Rattle.rules.specs.Table.{row, rows_of, with_move}
@@ -25,7 +21,7 @@ use Rattle.sets.proofs.Lists.{sets_before, sets_after, sets_at}
 use Rattle.tables.specs.Lists.{among}
 use Rattle.tables.specs.Format.{Kind, bits16, signed, state_entry, state, number, move_entry, move}
 use Rattle.tables.specs.Control.{set_of_entries, row_of_entries, rows_of_entries}
-use Rattle.tables.specs.Inner.{Small, values}
+use Rattle.tables.specs.Inner.{values}
 use Rattle.tables.proofs.Lists.{among-append}
 
 -- ---- entries by number
@@ -150,6 +146,15 @@ rows_none =
     tabulate-ext 0 1024 _ _
     (λ j l. sym (empty-at (j % 4) (omega arith)) ∙ ap (λ (x : Set). get_or x (j % 4) 0) (set-of_none (λ u. false) (λ u. refl)))
 
+-- .. as n zeros
+zeros : (n : ℕ) → tabulate {A = ℕ} n (λ j. 0) ≡ replicate n 0
+unfolding tabulate
+zeros zero = refl
+zeros (suc n) = ap (λ (l : List ℕ). 0 ∷ l) (zeros n)
+
+pub zeros-none : (n : ℕ) → n ≡ 1024 → replicate n 0 ≡ rows_of_entries []
+zeros-none n e = sym (zeros n) ∙ ap (λ (k : ℕ). tabulate {A = ℕ} k (λ j. 0)) e ∙ rows_none
+
 -- ---- the loop of `set_of` at entry i
 pub record Gathering (b : List ℕ) (start k : ℕ) (x : Set) (i : ℕ) : Type 0 where
   pub in-range : i ≤ k
@@ -160,12 +165,12 @@ module _ (b : List ℕ) (start k : ℕ) where
   unfolding empty
   gather_begins = record { in-range = omega arith; is = set-none ∙ ap set_of_entries (sym (values-none (number 0) b start)) }
 
-  pub gather_goes : (x : Set) (i : ℕ) → Gathering b start k x i → i < k → (s : ℕ) → Small 65536 (bits16 b (start + i * 2)) s
+  pub gather_goes : (x : Set) (i : ℕ) → Gathering b start k x i → i < k → (s : ℕ) → s ≡ bits16 b (start + i * 2)
       → (x' : Set) → x' ≡ with 256 x s → Gathering b start k x' (i + 1)
   gather_goes x i v l s e x' q = record {
     in-range = omega arith;
     is =
-        q ∙ ap₂ (with 256) v.is e.is
+        q ∙ ap₂ (with 256) v.is e
         ∙ set_more (values (number 0) b start i) (bits16 b (start + i * 2))
         ∙ ap set_of_entries (sym (values-more (number 0) b start i));
   }
@@ -183,13 +188,13 @@ module _ (b : List ℕ) (start k : ℕ) (rows : List ℕ) where
   add_begins e = record { in-range = omega arith; is = e ∙ ap rows_of_entries (sym (values-none (move 0) b start)) }
 
   -- a move from s to u
-  pub add_goes : (i : ℕ) → Adding b start k rows i → i < k → (s u : ℕ) → Small 65536 (bits16 b (start + i * 4)) s
-      → Small 65536 (bits16 b (start + i * 4 + 2)) u → (rows' : List ℕ) → rows' ≡ with_move rows s u true → Adding b start k rows' (i + 1)
+  pub add_goes : (i : ℕ) → Adding b start k rows i → i < k → (s u : ℕ) → s ≡ bits16 b (start + i * 4)
+      → u ≡ bits16 b (start + i * 4 + 2) → u < 65536 → (rows' : List ℕ) → rows' ≡ with_move rows s u true → Adding b start k rows' (i + 1)
   unfolding move_entry
-  add_goes i v l s u es eu rows' r =
+  add_goes i v l s u es eu small rows' r =
       let entry = move_entry b (start + i * 4) in
-      let f : s ≡ entry / 65536 = omega (arith, es.is, eu.is, eu.below) in
-      let g : u ≡ entry % 65536 = omega (arith, es.is, eu.is, eu.below) in
+      let f : s ≡ entry / 65536 = omega arith in
+      let g : u ≡ entry % 65536 = omega arith in
       record {
         in-range = omega arith;
         is =
@@ -210,9 +215,6 @@ module _ {A : Type 0} (d : A) (h : ℕ → A) (l : List A) (n : ℕ) where
   fill_begins = record { in-range = omega arith; so_far = fill_none d h l }
 
   module _ (x : List A) (i : ℕ) (f : FilledTo d h l x n i) (m : length l ≡ n) where
-    pub fill_place : i < n → i < length x
-    fill_place k = omega (arith, f.so_far.same)
-
     pub fill_goes : (v : A) → i < n → v ≡ h i → FilledTo d h l (set x i v) n (i + 1)
     fill_goes v k e = record { in-range = omega arith; so_far = fill_more d h l x i v f.so_far (omega arith) e }
 
@@ -226,27 +228,29 @@ angle_of vs s = signed (get_or vs s 0 / 256)
 abbrev pub mode_of : List ℕ → ℕ → ℕ
 mode_of vs s = get_or vs s 0 % 256
 
-module _ (vs : List ℕ) (i q : ℕ) (e : Small 16777216 (get_or vs i 0) q) where
-  pub angle-goes : (l x : List ℤ) → FilledTo (pos 0) (angle_of vs) l x 256 i → length l ≡ 256 → i < 256 → (z : ℤ) → mag z < 32768 → z ≡ signed (q / 256)
-      → FilledTo (pos 0) (angle_of vs) l (set x i (to_z w16 (of_z w16 z))) 256 (i + 1)
-  angle-goes l x f m k z ok r =
-      fill_goes (pos 0) (angle_of vs) l 256 x i f m _ k
-      (to_z-of_z w16 z (record { sfits = ok }) ∙ r ∙ ap (λ (v : ℕ). signed (v / 256)) e.is)
-
-  pub mode-goes : (l x : List ℕ) → FilledTo 0 (mode_of vs) l x 256 i → length l ≡ 256 → i < 256
-      → FilledTo 0 (mode_of vs) l (set x i (q % 256)) 256 (i + 1)
-  mode-goes l x f m k = fill_goes 0 (mode_of vs) l 256 x i f m _ k (ap (λ (v : ℕ). v % 256) e.is)
-
--- the entry of state i, 0 from N on
+-- what stands at state i of N, 0 from N on; m is the mode's byte
 module _ (b : List ℕ) (N i : ℕ) where
-  pub entry_in : i < N → (u m : ℕ) → Small 65536 (bits16 b (2 + i * 3)) u → Small 256 (get_or b (2 + i * 3 + 2) 0) m
-      → Small 16777216 (get_or (values state b 2 N) i 0) (u * 256 + m)
-  unfolding values state_entry
-  entry_in l u m eu em = record {
-    is = ap₂ (λ (x y : ℕ). x * 256 + y) eu.is em.is ∙ sym (tabulate-at N (λ i. state_entry b (2 + i * 3)) 0 i l);
-    below = omega (arith, eu.below, em.below);
-  }
+  abbrev all : List ℕ
+  all = values state b 2 N
 
-  pub entry-out : N ≤ i → Small 16777216 (get_or (values state b 2 N) i 0) 0
+  entry_in : i < N → get_or all i 0 ≡ bits16 b (2 + i * 3) * 256 + get_or b (2 + i * 3 + 2) 0
+  unfolding values state_entry
+  entry_in l = tabulate-at N (λ i. state_entry b (2 + i * 3)) 0 i l
+
+  entry-out : N ≤ i → get_or all i 0 ≡ 0
   unfolding values
-  entry-out l = record { is = sym (tabulate-past N (λ i. state_entry b (2 + i * 3)) 0 i l); below = omega arith }
+  entry-out l = tabulate-past N (λ i. state_entry b (2 + i * 3)) 0 i l
+
+  module _ (small : get_or b (2 + i * 3 + 2) 0 < 256) where
+    pub angle_in : i < N → signed (bits16 b (2 + i * 3)) ≡ angle_of all i
+    angle_in l = let e : bits16 b (2 + i * 3) ≡ get_or all i 0 / 256 = omega (arith, entry_in l) in ap signed e
+
+    pub mode_in : i < N → get_or b (2 + i * 3 + 2) 0 ≡ mode_of all i
+    mode_in l = omega (arith, entry_in l)
+
+  pub angle-out : N ≤ i → pos 0 ≡ angle_of all i
+  unfolding signed
+  angle-out l = rw (entry-out l)
+
+  pub mode-out : N ≤ i → 0 ≡ mode_of all i
+  mode-out l = omega (arith, entry-out l)

@@ -1,5 +1,5 @@
 -- Laws of the numbers that pass a test, and of the numbers among a list.
-use Prim.Native.Nat.{ℕ, zero, suc, ◌+◌, ◌-◌, ◌≤◌, ◌<◌}
+use Prim.Native.Nat.{ℕ, zero, suc, ◌+◌, ◌≤◌, ◌<◌}
 use native.Mathlib.Numerals.{add-one}
 use native.Mathlib.Omega.{arith}
 use mathlib.Core.Path.{◌≡◌, refl, sym, ap, ap₂, ◌∙◌}
@@ -7,17 +7,10 @@ use mathlib.Core.Bool.{Bool, true, false, ◌||◌, cond}
 use mathlib.Core.List.{List, [], ◌∷◌, ◌++◌}
 use borrow.Author.Tests.{ne_eqb, eqb-true, eqb-false}
 use lib.Dec.{eqb}
-use lib.ListN.{length, set, length-append}
-use lib.Seq.{sets}
+use lib.ListN.{length, length-append}
 use Rattle.sets.specs.Search.{sum}
 use Rattle.sets.specs.Sets.{digit}
 use Rattle.tables.specs.Lists.{passing, among}
-
--- ---- bytes written one after another
-module _ {A : Type 0} where
-  pub sets_append : (xs ys l : List A) (i : ℕ) → sets l i (xs ++ ys) ≡ sets (sets l i xs) (i + length xs) ys
-  sets_append [] ys l i = let e : i + 0 ≡ i = omega arith in rw e
-  sets_append (x ∷ xs) ys l i = let e : i + suc (length xs) ≡ suc i + length xs = omega arith in rw e (sets_append xs ys (set l i x) (suc i))
 
 -- ---- the numbers that pass a test
 pub passing-none : (p : ℕ → Bool) (from : ℕ) → passing p from 0 ≡ []
@@ -42,15 +35,6 @@ passing-more p from k = passing-add p from k 1 ∙ ap (λ (l : List ℕ). passin
   where
     one : (v : ℕ) → passing p v 1 ≡ cond (p v) (v ∷ []) []
     one v = refl
-
--- the numbers from s on: s, where it passes, and those after it
-pub passing-next : (p : ℕ → Bool) (from k s : ℕ) → s < k
-    → passing p (from + s) (k - s) ≡ cond (p (from + s)) ((from + s) ∷ []) [] ++ passing p (from + (s + 1)) (k - (s + 1))
-unfolding passing
-passing-next p from k s l =
-    let e : k - s ≡ 1 + (k - (s + 1)) = omega arith in
-    let f : from + s + 1 ≡ from + (s + 1) = omega arith in
-    rw (e, ← f) (passing-add p (from + s) 1 (k - (s + 1)))
 
 pub passing-ext : (p q : ℕ → Bool) (k from : ℕ) → ((i : ℕ) → i < k → p (from + i) ≡ q (from + i)) → passing p from k ≡ passing q from k
 unfolding passing

@@ -1,8 +1,7 @@
 -- The numbers that a reading refuses with: 1 to 5 in a section, 6 after the last, so that 0 says that the file was taken.
 use Prim.Native.Nat.{ℕ, zero, suc, ◌+◌}
-use native.Mathlib.Omega.{arith}
 use mathlib.Core.Path.{◌≡◌, refl}
-use mathlib.Core.Bool.{Bool, true, false, ◌&&◌, ◌||◌, cond, false≢true}
+use mathlib.Core.Bool.{Bool, true, false, ◌&&◌, ◌||◌, cond}
 use mathlib.Core.List.{List, [], ◌∷◌}
 use lib.Dec.{eqb, ltb}
 use lib.IntN.{ℤ}
@@ -11,7 +10,7 @@ use Rattle.answers.specs.Refusals.{one_of}
 use Rattle.tables.specs.Format.{Kind, count, Section, states, numbers, moves, section_number, Contents}
 use Rattle.tables.specs.Format.{Taken, refused_at, taken, and_then, entry, entries, section, ending, contents}
 use Rattle.tables.specs.Control.{sized, reading}
-use Rattle.tables.specs.Said.{number_of, section_step}
+use Rattle.tables.specs.Said.{section_step}
 
 -- taken, or refused with one of some numbers
 pub data Numbered (ns : List ℕ) {A : Type 0} : Taken A → Type 0 where
@@ -89,15 +88,3 @@ reading-numbered b rows angles modes = go (sized rows angles modes) (contents b)
     go true (refused_at k at) (off h) = off (or-true (eqb k 7) _ h)
     go true (taken l) on = on
     go false x n = off refl
-
--- a reading with refusal 0 was taken
-pub taken_is : (b rows : List ℕ) (angles : List ℤ) (modes : List ℕ) → number_of (reading b rows angles modes) ≡ 0
-    → (l : Contents) × (sized rows angles modes ≡ true) × (contents b ≡ taken l)
-unfolding reading one_of
-taken_is b rows angles modes e = go (sized rows angles modes) refl (contents b) (contents-numbered b) refl e
-  where
-    go : (t : Bool) → sized rows angles modes ≡ t → (x : Taken Contents) → Numbered in_file x → contents b ≡ x
-        → number_of (cond t x (refused_at 7 0)) ≡ 0 → (l : Contents) × (sized rows angles modes ≡ true) × (contents b ≡ taken l)
-    go true q (refused_at k at) (off h) p z = absurd (false≢true (rw z at h))
-    go true q (taken l) on p z = (l, q, p)
-    go false q x n p z = absurd (omega (arith, z))

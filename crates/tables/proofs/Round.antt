@@ -4,32 +4,35 @@
 use Prim.Native.Nat.{ℕ, zero, suc, ◌+◌, ◌*◌, ◌≤◌, ◌<◌}
 use native.Mathlib.Omega.{arith}
 use mathlib.Core.Path.{◌≡◌, refl, sym, ap, ◌∙◌}
-use mathlib.Core.Bool.{true}
+use mathlib.Core.Bool.{Bool, true, false, cond}
 use mathlib.Core.List.{List}
 use borrow.Author.Tests.{ltb-true}
 use lib.Dec.{ltb}
 use lib.IntN.{ℤ, pos}
 use lib.ListN.{length, get_or, take}
+use Rattle.std.specs.Prelude.{Result, Ok, Err}
 use Rattle.answers.specs.Answer.{Answer, refused, given, unless_refused}
+use Rattle.answers.specs.Said.{number_of}
+use Rattle.answers.specs.declared.Refusal.{Refusal}
 use Rattle.rules.specs.Table.{sound_table, move_count}
 use Rattle.sets.proofs.Words.{take-sets}
-use Rattle.sets.specs.Sets.{count}
+use Rattle.sets.specs.Sets.{Set, count}
 use Rattle.sets.proofs.Search.{all-says}
 use Rattle.sets.proofs.Tests.{passed, and-true}
 use Rattle.turns.specs.Turn.{is_angle}
 use Rattle.moves.specs.Models.{Control, control, on}
-use Rattle.tables.specs.Format.{Contents, taken, contents, past}
+use Rattle.tables.specs.Format.{Contents, Taken, refused_at, taken, and_then, contents, past}
 use Rattle.tables.specs.Control.{rows_of_entries, control_of, contents_of, file_of, sized, label_at, labelled, write_refusal, writing, reading}
-use Rattle.tables.specs.Said.{Read, Wrote, said_written, length_of, put_in, if_taken}
+use Rattle.tables.specs.Said.{said_reading, read_of, Read, Wrote, said_written, length_of, put_in, if_taken}
+use Rattle.tables.specs.declared.Fault.{Fault}
 use Rattle.tables.specs.declared.Reading.{Reading}
-use Rattle.tables.specs.declared.Written.{Written}
 use Rattle.tables.specs.RoundTrip.{Bytes, ReadsAs, RoundTrip}
 use Rattle.tables.proofs.Back.{moves-fine, read-good, read_same, written_same}
 use Rattle.tables.proofs.Files.{contents-is}
 use Rattle.tables.proofs.Contents.{moves-back, contents-back, control-back, good_contents, writable_back, angle-past, mode-past}
 use Rattle.tables.specs.RoundTrip.{Held}
 use Rattle.tables.proofs.Putting.{moves-count}
-use Rattle.tables.proofs.Numbered.{taken_is}
+use Rattle.tables.proofs.Taking.{same_taken}
 use Rattle.tables.proofs.Writing.{Writable, writable, not_refused, file_length, moves-are}
 
 -- ---- writing, taken apart
@@ -39,7 +42,7 @@ given_is c room b e = go (write_refusal c room) refl e
   where
     go : (k : ℕ) → write_refusal c room ≡ k → unless_refused k (file_of c) ≡ given b → (write_refusal c room ≡ 0) × (file_of c ≡ b)
     go zero q p = (q, cc)
-    go (suc n) q p = let z : ◌≡◌ {A = ℕ} 0 1 = cc in absurd (omega arith)
+    go (suc n) q p = cc
 
 -- a sound table of at most 4,096 moves, its angles and modes in range and 0 from N up, is written where there is room
 pub sound-is_written : (c : Control) (room : ℕ) → Writable c → length (file_of c) ≤ room → writing c room ≡ given (file_of c)
@@ -120,33 +123,28 @@ unfolding file_of
 written-length c h w = (file_length c, (read_length (file_of c) (contents_of c) (written_same (contents_of c) (good_contents c h w))).1)
 
 -- ---- of the code
-module _ {rows : List ℕ} {angles : List ℤ} {modes : List ℕ} {r : Reading} {rows' : List ℕ} {angles' : List ℤ} {modes' : List ℕ} where
+module _ {rows : List ℕ} {angles : List ℤ} {modes : List ℕ} {rows' : List ℕ} {angles' : List ℤ} {modes' : List ℕ} where
   -- what `read` promises of a file that was taken
-  read_is : (b : List ℕ) (l : Contents) → reading b rows angles modes ≡ taken l → Read b rows angles modes r rows' angles' modes'
-      → (c : Control) → control_of l ≡ c → length l.moves ≡ move_count c.table.rows → ReadsAs c r rows' angles' modes'
+  read_is : {r : Result Reading Fault} (b : List ℕ) (l : Contents) → reading b rows angles modes ≡ taken l
+      → Read b rows angles modes r rows' angles' modes' → (c : Control) → control_of l ≡ c → length l.moves ≡ move_count c.table.rows
+      → ReadsAs c r rows' angles' modes'
+  unfolding and_then
   read_is b l e p c q m = record {
-    refusal = p.refusal ∙ rw e;
-    offset = p.offset ∙ rw e;
-    model_size = p.model_size ∙ is (λ k. (control_of k).table.size) 0 ∙ ap (λ (x : Control). x.table.size) q;
-    starts = p.starts ∙ is (λ k. (control_of k).table.starts) _ ∙ ap (λ (x : Control). x.table.starts) q;
-    safe = p.safe ∙ is (λ k. (control_of k).table.safe) _ ∙ ap (λ (x : Control). x.table.safe) q;
-    moves = p.moves ∙ is (λ k. length k.moves) 0 ∙ m;
-    filled_rows = p.filled_rows ∙ is (λ k. (control_of k).table.rows) _ ∙ ap (λ (x : Control). x.table.rows) q;
-    filled_angles = p.filled_angles ∙ is (λ k. (control_of k).angles) _ ∙ ap (λ (x : Control). x.angles) q;
-    filled_modes = p.filled_modes ∙ is (λ k. (control_of k).modes) _ ∙ ap (λ (x : Control). x.modes) q;
+    answer = p.answer ∙ rw (e, q, m);
+    filled_rows = p.filled_rows ∙ rw e (ap (λ (x : Control). x.table.rows) q);
+    filled_angles = p.filled_angles ∙ rw e (ap (λ (x : Control). x.angles) q);
+    filled_modes = p.filled_modes ∙ rw e (ap (λ (x : Control). x.modes) q);
   }
-    where
-      is : {B : Type 0} (f : Contents → B) (d : B) → if_taken (reading b rows angles modes) f d ≡ f l
-      is f d = rw e
 
   -- what `write` has written, `read` reads back
-  pub write_then_read : (c : Control) → Held c → {out : List ℕ} {w : Written} {out' : List ℕ} → Wrote c out w out' → (n : ℕ) → said_written w ≡ given n
-      → sized rows angles modes ≡ true → Read (take n out') rows angles modes r rows' angles' modes' → ReadsAs c r rows' angles' modes'
+  pub write_then_read : (c : Control) → Held c → {out : List ℕ} {w : Result ℕ Refusal} {out' : List ℕ} → Wrote c out w out' → (n : ℕ)
+      → said_written w ≡ given n → sized rows angles modes ≡ true → {r : Result Reading Fault}
+      → Read (take n out') rows angles modes r rows' angles' modes' → ReadsAs c r rows' angles' modes'
   unfolding reading
-  write_then_read c h {out} {w} {out'} p n e s q = go (writing c (length out)) refl (sym e ∙ p.answer) p.output
+  write_then_read c h {out} {w} {out'} p n e s {r} q = go (writing c (length out)) refl (sym e ∙ p.answer) p.output
     where
       go : (x : Answer (List ℕ)) → writing c (length out) ≡ x → given n ≡ length_of x → out' ≡ put_in x out → ReadsAs c r rows' angles' modes'
-      go (refused k) f d o = let z : ◌≡◌ {A = ℕ} 0 1 = cc in absurd (omega arith)
+      go (refused k) f d o = cc
       go (given b) f d o =
           let t = written-reads c h (length out) b f in
           let g = given_is c (length out) b f in
@@ -155,33 +153,60 @@ module _ {rows : List ℕ} {angles : List ℤ} {modes : List ℕ} {r : Reading} 
           let a : take n out' ≡ b = ap (take n) o ∙ rw m (take-sets b out v) in
           read_is b (contents_of c) (rw s t.0) (rw a at q) c t.1 (sym (moves-are c))
 
-  module _ (file : List ℕ) (B : Bytes file) (p : Read file rows angles modes r rows' angles' modes') (e : r.refusal ≡ 0) where
+  -- what `read` refuses, and that it leaves the buffers as they were
+  pub read-refuses : {f : Fault} (file : List ℕ) → Read file rows angles modes (Err f) rows' angles' modes'
+      → (reading file rows angles modes ≡ refused_at (number_of f.refusal) f.offset) × (rows' ≡ rows) × (angles' ≡ angles) × (modes' ≡ modes)
+  unfolding and_then
+  read-refuses {f} file p = go (reading file rows angles modes) p.answer p.filled_rows p.filled_angles p.filled_modes
+    where
+      go : (x : Taken Contents) → refused_at (number_of f.refusal) f.offset ≡ and_then x (λ l. taken (read_of l))
+          → rows' ≡ if_taken x (λ l. (control_of l).table.rows) rows → angles' ≡ if_taken x (λ l. (control_of l).angles) angles
+          → modes' ≡ if_taken x (λ l. (control_of l).modes) modes
+          → (x ≡ refused_at (number_of f.refusal) f.offset) × (rows' ≡ rows) × (angles' ≡ angles) × (modes' ≡ modes)
+      go (refused_at k at) e t u v =
+          let m : number_of f.refusal ≡ k = cc in
+          let o : f.offset ≡ at = cc in
+          (rw (m, o), t, u, v)
+      go (taken l) e t u v = cc
+
+  module _ {r : Reading} (file : List ℕ) (B : Bytes file) (p : Read file rows angles modes (Ok r) rows' angles' modes') where
     -- the table that `read` answers and leaves in the buffers
     abbrev answered : Control
     answered = control (on r.model rows') angles' modes'
 
+    -- the reading was taken
+    was_taken : (l : Contents) × (sized rows angles modes ≡ true) × (contents file ≡ taken l)
+    unfolding reading and_then
+    was_taken = go (sized rows angles modes) refl (contents file) refl p.answer
+      where
+        go : (t : Bool) → sized rows angles modes ≡ t → (x : Taken Contents) → contents file ≡ x
+            → said_reading (Ok r) ≡ and_then (cond t x (refused_at 7 0)) (λ l. taken (read_of l))
+            → (l : Contents) × (sized rows angles modes ≡ true) × (contents file ≡ taken l)
+        go true q (refused_at k at) f e = cc
+        go true q (taken l) f e = (l, q, f)
+        go false q x f e = cc
+
     pub read-contents : (l : Contents) × (contents file ≡ taken l) × (answered ≡ control_of l)
     unfolding reading
     read-contents =
-        let (l, s, f) = taken_is file rows angles modes (sym p.refusal ∙ e) in
-        (l, f, same l (read_is file l (whole l s f) p (control_of l) refl (sym (moves-counted file l f))))
+        let (l, s, f) = was_taken in
+        (l, f, same l (read_is file l (rw (s, f)) p (control_of l) refl (sym (moves-counted file l f))))
       where
-        whole : (l : Contents) → sized rows angles modes ≡ true → contents file ≡ taken l → reading file rows angles modes ≡ taken l
-        whole l s f = rw s f
-
-        same : (l : Contents) → ReadsAs (control_of l) r rows' angles' modes' → answered ≡ control_of l
-        same l a = λ i. record {
-          table = record { size = a.model_size i; starts = a.starts i; safe = a.safe i; rows = a.filled_rows i };
-          angles = a.filled_angles i;
-          modes = a.filled_modes i;
-        }
+        same : (l : Contents) → ReadsAs (control_of l) (Ok r) rows' angles' modes' → answered ≡ control_of l
+        same l a =
+            let said : ◌≡◌ {A = ℕ × Set × Set × ℕ} (r.model.size, r.model.starts.words, r.model.safe.words, r.moves) _ = same_taken a.answer in
+            λ i. record {
+              table = record { size = (said i).0; starts = (said i).1; safe = (said i).2; rows = a.filled_rows i };
+              angles = a.filled_angles i;
+              modes = a.filled_modes i;
+            }
 
     -- the table that `read` has read is sound
     pub read-then_proper : Proper answered
     read-then_proper = let (l, f, c) = read-contents in rw c (read-proper file B l f)
 
     -- what `read` has read, `write` writes out as the same bytes
-    pub read_then_write : {out : List ℕ} {w : Written} {out' : List ℕ} → length file ≤ length out → Wrote answered out w out'
+    pub read_then_write : {out : List ℕ} {w : Result ℕ Refusal} {out' : List ℕ} → length file ≤ length out → Wrote answered out w out'
         → (said_written w ≡ given (length file)) × (take (length file) out' ≡ file)
     read_then_write {out} {w} {out'} h q =
         let (l, f, c) = read-contents in
@@ -194,5 +219,5 @@ pub round_trip : RoundTrip
 round_trip =
     record {
       write_then_read = λ c out out' w n rows angles modes r rows' angles' modes' h p e s q. write_then_read c h p n e s q;
-      read_then_write = λ file rows angles modes r rows' angles' modes' out out' w B p e h q. read_then_write file B p e h q;
+      read_then_write = λ file rows angles modes r rows' angles' modes' out out' w B p h q. read_then_write file B p h q;
     }

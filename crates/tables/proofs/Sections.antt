@@ -28,9 +28,9 @@ entry-is K b at low v e =
     go : (r s t : Bool) → (r ≡ false → at + K.width ≤ length b) → K.bad (K.value b at) ≡ s → (K.rises && ltb (K.value b at) low) ≡ t
         → cond r (refused_at 1 at) (cond s (refused_at K.refusal at) (cond t (refused_at 5 at) (taken (K.value b at)))) ≡ taken v
         → Entry K b at low v
-    go true s t h f g q = let z : ◌≡◌ {A = ℕ} 0 1 = cc in absurd (omega arith)
-    go false true t h f g q = let z : ◌≡◌ {A = ℕ} 0 1 = cc in absurd (omega arith)
-    go false false true h f g q = let z : ◌≡◌ {A = ℕ} 0 1 = cc in absurd (omega arith)
+    go true s t h f g q = cc
+    go false true t h f g q = cc
+    go false false true h f g q = cc
     go false false false h f g q = let z : v ≡ K.value b at = cc in record { room = h refl; good = rw z f; rises = rw z g; is = z }
 
 -- entries that were taken: the first, and the others
@@ -47,12 +47,12 @@ first K b at low k vs e = go (entry K b at low) refl e
   where
     rest : (v : ℕ) → Entry K b at low v → (y : Taken (List ℕ)) → entries K b (at + K.width) (suc v) k ≡ y
         → and_then y (λ vs. taken (v ∷ vs)) ≡ taken vs → First K b at low k vs
-    rest v t (refused_at r a) p q = let z : ◌≡◌ {A = ℕ} 0 1 = cc in absurd (omega arith)
+    rest v t (refused_at r a) p q = cc
     rest v t (taken ws) p q = record { head = v; tail = ws; both = cc; entry = t; others = p }
 
     go : (x : Taken ℕ) → entry K b at low ≡ x → and_then x (λ v. and_then (entries K b (at + K.width) (suc v) k) (λ vs. taken (v ∷ vs))) ≡ taken vs
         → First K b at low k vs
-    go (refused_at r a) p q = let z : ◌≡◌ {A = ℕ} 0 1 = cc in absurd (omega arith)
+    go (refused_at r a) p q = cc
     go (taken v) p q = rest v (entry-is K b at low v p) (entries K b (at + K.width) (suc v) k) refl q
 
 -- they are what stands there, and there is room for them
@@ -88,7 +88,7 @@ length-values K b at k = length-tabulate k (λ i. K.value b (at + i * K.width))
 
 -- ---- a section that was taken
 pub neither : (x y : Bool) → (x || y) ≡ false → (x ≡ false) × (y ≡ false)
-neither true y e = let z : ◌≡◌ {A = ℕ} 0 1 = cc in absurd (omega arith)
+neither true y e = cc
 neither false y e = (refl, e)
 
 pub record Whole (S : Section) (b : List ℕ) (at : ℕ) (vs : List ℕ) : Type 0 where
@@ -105,7 +105,7 @@ section-is S b at vs e = go (entry (count S.least S.most) b at 0) refl e
   where
     go : (x : Taken ℕ) → entry (count S.least S.most) b at 0 ≡ x → and_then x (λ k. entries S.kind b (at + 2) 0 k) ≡ taken vs
         → Whole S b at vs
-    go (refused_at r a) p q = let z : ◌≡◌ {A = ℕ} 0 1 = cc in absurd (omega arith)
+    go (refused_at r a) p q = cc
     go (taken k) p q =
         let t = entry-is (count S.least S.most) b at 0 k p in
         let o = neither (ltb k S.least) (ltb S.most k) t.good in

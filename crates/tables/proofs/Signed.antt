@@ -1,16 +1,16 @@
 -- 16 bits in two's complement: the definitions are what the code's operations on i16 come to, and they undo each other.
-use Prim.Native.Nat.{ℕ, zero, suc, ◌-◌, ◌^◌, ◌≤◌, ◌<◌}
+use Prim.Native.Nat.{ℕ, zero, suc, ◌+◌, ◌*◌, ◌-◌, ◌^◌, ◌≤◌, ◌<◌}
 use native.Mathlib.Nat.{zero-add}
 use native.Mathlib.Omega.{arith}
 use mathlib.Core.Path.{◌≡◌, refl, sym, ap, ◌∙◌}
-use mathlib.Core.Bool.{Bool, true, false, cond, true≢false, false≢true}
+use mathlib.Core.Bool.{Bool, true, false, cond}
 use lib.Dec.{eqb, ltb}
 use lib.IntN.{ℤ, pos, negsuc, ◌-ℤ◌}
-use lib.Signed.{mag, le_z}
+use lib.Signed.{mag}
 use mir.Syntax.{w16}
-use mir.Val.{to_z, of_z, SFits}
+use mir.Val.{to_z, of_z, sel, SFits}
 use mir.ValLaws.{to_z_pos, to_z-of_z}
-use borrow.Author.Tests.{ne_eqb, lt-ltb, le-ltb, le-leb}
+use borrow.Author.Tests.{ne_eqb, lt-ltb, le-ltb}
 use Rattle.turns.proofs.Ints.{plus, minus}
 use Rattle.tables.specs.Format.{signed, unsigned}
 use Rattle.tables.specs.Control.{is_zero}
@@ -41,10 +41,23 @@ module _ (z : ℤ) (low : minus z ≤ 32768) (high : plus z < 32768) where
       go (pos n) l h = omega arith
       go (negsuc n) l h = omega arith
 
--- ---- 16 bits as the code works out the integer: the upper half is `-1 - (65535 - u)`
-pub signed_lower : (u : ℕ) → u < 32768 → to_z w16 u ≡ signed u
+-- ---- 16 bits read as an integer, and an integer's bits
+pub signed_is : (u : ℕ) → to_z w16 u ≡ signed u
 unfolding signed
-signed_lower u h = to_z_pos w16 u h ∙ rw (lt-ltb u 32768 h)
+signed_is u = go (ltb u 32768)
+  where
+    go : (t : Bool) → sel t (pos u) (negsuc (65536 - suc u)) ≡ cond t (pos u) (negsuc (65535 - u))
+    go true = refl
+    go false = ap negsuc (omega arith)
+
+pub unsigned_is : (z : ℤ) → of_z w16 z ≡ unsigned z
+unfolding unsigned
+unsigned_is (pos n) = refl
+unsigned_is (negsuc n) = omega arith
+
+-- .. half by half: the lower half is itself, the upper half is `-1 - (65535 - u)`
+pub signed_lower : (u : ℕ) → u < 32768 → to_z w16 u ≡ signed u
+signed_lower u h = signed_is u
 
 -- -1 less v
 minus_one : (v : ℕ) → negsuc 0 -ℤ pos v ≡ negsuc v
@@ -64,50 +77,14 @@ module _ (u : ℕ) (h : 32768 ≤ u) (k : u < 65536) where
   unfolding signed
   signed-upper = to_z-of_z w16 _ upper_fits ∙ upper ∙ rw (le-ltb u 32768 h)
 
+-- the bytes are x and y
+pub signed-bytes : (z : ℤ) (x y : ℕ) → mag z < 32768 → z ≡ to_z w16 (x + y * 256) → to_z w16 (of_z w16 z) ≡ signed (x + 256 * y)
+signed-bytes z x y ok e =
+    let q : x + y * 256 ≡ x + 256 * y = omega arith in
+    to_z-of_z w16 z (record { sfits = ok }) ∙ e ∙ rw q (signed_is (x + 256 * y))
+
 -- bits that are all 0 are those of 0
 pub zero_bits : (z : ℤ) → mag z < 32768 → is_zero z ≡ eqb (of_z w16 z) 0
 unfolding is_zero
 zero_bits (pos n) h = refl
 zero_bits (negsuc n) h = sym (ne_eqb (65536 - suc n) 0 (λ e. omega arith))
-
--- ---- and the bits of an integer
--- from 0 up the bits are the integer; below 0 they are 65,535 less `-1 - a`
-pub record Upper (a : ℤ) : Type 0 where
-  pub n : ℕ
-  pub small : n < 32768
-  pub is : unsigned a ≡ n
-  pub read : to_z w16 (of_z w16 a) ≡ pos n
-
-pub record Lower (a : ℤ) : Type 0 where
-  pub n : ℕ
-  pub small : n < 32768
-  pub is : unsigned a ≡ 65535 - n
-  pub fits : SFits w16 (negsuc 0 -ℤ to_z w16 (of_z w16 a))
-  pub read : to_z w16 (of_z w16 (negsuc 0 -ℤ to_z w16 (of_z w16 a))) ≡ pos n
-
-module _ (a : ℤ) (f : SFits w16 a) where
-  same : to_z w16 (of_z w16 a) ≡ a
-  same = to_z-of_z w16 a f
-
-  pub upper_half : le_z (pos 0) (to_z w16 (of_z w16 a)) ≡ true → Upper a
-  unfolding unsigned
-  upper_half e = go a refl
-    where
-      go : (z : ℤ) → a ≡ z → Upper a
-      go (pos n) q = record { n = n; small = rw q at f.sfits; is = rw q; read = same ∙ q }
-      go (negsuc n) q = absurd (false≢true (ap (le_z (pos 0)) (sym (same ∙ q)) ∙ e))
-
-  pub lower_half : le_z (pos 0) (to_z w16 (of_z w16 a)) ≡ false → Lower a
-  unfolding unsigned
-  lower_half e = go a refl
-    where
-      flip : (n : ℕ) → negsuc 0 -ℤ negsuc n ≡ pos n
-      flip n = let e : suc n - 1 ≡ n = omega arith in rw (le-ltb (suc n) 1 (omega arith), e)
-
-      go : (z : ℤ) → a ≡ z → Lower a
-      go (pos n) q = absurd (true≢false (sym (le-leb 0 n (omega arith)) ∙ ap (le_z (pos 0)) (sym (same ∙ q)) ∙ e))
-      go (negsuc n) q =
-          let h : n < 32768 = rw q at f.sfits in
-          let g : negsuc 0 -ℤ to_z w16 (of_z w16 a) ≡ pos n = ap (λ (z : ℤ). negsuc 0 -ℤ z) (same ∙ q) ∙ flip n in
-          let k : SFits w16 (negsuc 0 -ℤ to_z w16 (of_z w16 a)) = rw g (record { sfits = h }) in
-          record { n = n; small = h; is = rw q; fits = k; read = to_z-of_z w16 _ k ∙ g }

@@ -1,10 +1,10 @@
 -- Writing a whole file: its parts one after another, its length, its refusals, and what holds where there is none.
-use Prim.Native.Nat.{ℕ, zero, suc, ◌+◌, ◌*◌, ◌≤◌, ◌<◌}
+use Prim.Native.Nat.{ℕ, ◌+◌, ◌*◌, ◌≤◌, ◌<◌, ◌^◌}
 use native.Mathlib.Omega.{arith}
-use mathlib.Core.Bool.{Bool, true, false, not}
+use mathlib.Core.Bool.{Bool, true, false}
 use mathlib.Core.List.{List, [], ◌∷◌, ◌++◌, append_assoc}
 use mathlib.Core.Path.{◌≡◌, refl, sym, ap, ◌∙◌}
-use borrow.Author.Tests.{lt-ltb, le-ltb, lt-leb, le-leb, leb-true, eq-eqb, ne_eqb, not-true, not-false}
+use borrow.Author.Tests.{lt-ltb, le-ltb, lt-leb, le-leb, leb-true, eq-eqb, ne_eqb}
 use lib.Dec.{eqb, leb, ltb}
 use lib.IntN.{ℤ, pos}
 use lib.ListN.{length, get_or, length-append}
@@ -12,7 +12,7 @@ use lib.Signed.{mag}
 use mir.Syntax.{w16}
 use mir.Val.{to_z, of_z}
 use mir.ValLaws.{to_z-of_z}
-use Rattle.answers.specs.Answer.{unless_refused}
+use Rattle.answers.specs.Answer.{refused, unless_refused}
 use Rattle.answers.specs.Refusals.{Test, ◌unless◌, first_failing}
 use Rattle.answers.proofs.Order.{none_failing}
 use Rattle.moves.specs.Models.{Control, control}
@@ -26,11 +26,16 @@ use Rattle.turns.specs.Turn.{is_angle}
 use Rattle.tables.specs.Format.{bytes16, state, number, move, entries_bytes, file_bytes}
 use Rattle.tables.specs.Control.{state_number, contents_of, file_of, sized, clear_at, clear_past, label_at, labelled, write_refusal, writing}
 use Rattle.tables.specs.Said.{Wrote}
-use Rattle.tables.specs.Inner.{Lengths, set_bytes, move_bytes, Room, Put, StateRoom, FileRoom}
-use Rattle.tables.specs.declared.Written.TheVariants as written
-use Rattle.tables.proofs.Files.{sized-lengths}
+use Rattle.tables.specs.Inner.{set_bytes, move_bytes}
+use Rattle.answers.specs.Said.{number_of, refusal_of}
+use Rattle.answers.specs.declared.Refusal.{Refusal}
+use Rattle.answers.proofs.Said.{err_said}
+use Rattle.std.specs.Prelude.{Result, Ok, Err, IsErrAnd}
+use Rattle.tables.proofs.Taking.{err_is}
 use Rattle.tables.proofs.Signed.{zero_bits}
-use Rattle.tables.proofs.Putting.{put_both, Going, going_begins, going_room, going_next}
+use Rattle.outputs.specs.Appends.{Appends}
+use Rattle.outputs.specs.declared.Output.{Output}
+use Rattle.outputs.proofs.Puts.{appends_then, Fresh, fresh_fits}
 use Rattle.tables.proofs.Putting.{section-is_both, entries-length, section-length, members_count, moves-count}
 
 -- ---- the parts of a file
@@ -57,44 +62,11 @@ module _ (N : ℕ) (I P : Set) (rows : List ℕ) (angles : List ℤ) (modes : Li
       ap (λ (a : List ℕ). a ++ parts3) (section-is_both state (tabulate N (state_number angles modes)) N (sym (length-tabulate N _)))
       ∙ append_assoc (bytes16 N) state_entries parts3
 
-  -- `put_file`: each part has room where it is written
-  module _ (out : List ℕ) (r : FileRoom whole out) where
-    g0 : Going out 0 [] (bytes16 N ++ parts2) 0 out
-    g0 = going_begins out 0 _ (rw (← parts_are) r.room)
-
-    pub room_for_size : Room out 0 (bytes16 N)
-    room_for_size = going_room _ _ _ _ _ _ _ g0
-
-    module _ (at₁ : ℕ) (out₁ : List ℕ) (p₁ : Put out 0 (bytes16 N) at₁ out₁) where
-      g1 : Going out 0 ([] ++ bytes16 N) parts2 at₁ out₁
-      g1 = going_next _ _ _ _ _ _ _ g0 at₁ out₁ p₁
-
-      pub room_for_states : StateRoom out₁ at₁ state_entries angles modes N
-      room_for_states = record { room = going_room _ _ _ _ _ _ _ g1; size = r.size }
-
-      module _ (at₂ : ℕ) (out₂ : List ℕ) (p₂ : Put out₁ at₁ state_entries at₂ out₂) where
-        g2 : Going out 0 (([] ++ bytes16 N) ++ state_entries) parts3 at₂ out₂
-        g2 = going_next _ _ _ _ _ _ _ g1 at₂ out₂ p₂
-
-        pub room_for_starts : Room out₂ at₂ (set_bytes I)
-        room_for_starts = going_room _ _ _ _ _ _ _ g2
-
-        module _ (at₃ : ℕ) (out₃ : List ℕ) (p₃ : Put out₂ at₂ (set_bytes I) at₃ out₃) where
-          g3 : Going out 0 ((([] ++ bytes16 N) ++ state_entries) ++ set_bytes I) parts4 at₃ out₃
-          g3 = going_next _ _ _ _ _ _ _ g2 at₃ out₃ p₃
-
-          pub room_for_safe : Room out₃ at₃ (set_bytes P)
-          room_for_safe = going_room _ _ _ _ _ _ _ g3
-
-          module _ (at₄ : ℕ) (out₄ : List ℕ) (p₄ : Put out₃ at₃ (set_bytes P) at₄ out₄) where
-            g4 : Going out 0 (((([] ++ bytes16 N) ++ state_entries) ++ set_bytes I) ++ set_bytes P) (move_bytes rows) at₄ out₄
-            g4 = going_next _ _ _ _ _ _ _ g3 at₄ out₄ p₄
-
-            pub room_for_moves : Room out₄ at₄ (move_bytes rows)
-            room_for_moves = g4.room
-
-            pub put_all : (end : ℕ) (out₅ : List ℕ) → Put out₄ at₄ (move_bytes rows) end out₅ → Put out 0 (file_of whole) end out₅
-            put_all end out₅ p₅ = rw parts_are (simp append_assoc at (put_both g4.put p₅))
+  -- the parts appended one after another; n is N as the code has it
+  pub put_all : {o o₁ o₂ o₃ o₄ o₅ : Output} (n : ℕ) → n ≡ N → Appends o (bytes16 n) o₁ → Appends o₁ state_entries o₂ → Appends o₂ (set_bytes I) o₃
+      → Appends o₃ (set_bytes P) o₄ → Appends o₄ (move_bytes rows) o₅ → Appends o (file_of whole) o₅
+  put_all n e p₁ p₂ p₃ p₄ p₅ =
+      rw parts_are (appends_then (rw e at p₁) (appends_then p₂ (appends_then p₃ (appends_then p₄ p₅))))
 
   -- ---- the length of a file
   set-length : (x : Set) → length (set_bytes x) ≡ 2 + count 256 x * 2
@@ -147,39 +119,39 @@ module _ (n : ℕ) (ts : List Test) (a b k : ℕ) (e : k ≡ a) where
   unfolding first_failing
   goes_on_most h m q = rw (le-leb a b (rw e at h)) q
 
-pub range_few : (N : ℕ) (r : Bool) → r ≡ in_range N → not r ≡ false → N ≤ 256
-range_few N r e h = (passed (range_says N) (sym e ∙ not-false r h)).1
+pub range_few : (N : ℕ) (r : Bool) → r ≡ in_range N → r ≡ true → N ≤ 256
+range_few N r e h = (passed (range_says N) (sym e ∙ h)).1
 
 -- ---- labels, at a place s
-module _ (N : ℕ) (angles : List ℤ) (modes : List ℕ) (s : ℕ) where
+module _ (N : ℕ) (angles : List ℤ) (modes : List ℕ) (s k : ℕ) (q : k ≡ N) where
   abbrev angle : ℤ
   angle = get_or angles s (pos 0)
 
-  pub clear_below : s < N → true ≡ clear_at N angles modes s
+  pub clear_below : s < k → ltb s k ≡ clear_at N angles modes s
   unfolding clear_at
-  clear_below l = rw (lt-ltb s N l)
+  clear_below l = rw (q, lt-ltb s N (rw q at l))
 
-  module _ (l : N ≤ s) (ok : mag angle < 32768) where
-    pub clear_angle : (of_z w16 angle ≡ 0 → ⊥) → false ≡ clear_at N angles modes s
+  module _ (l : k ≤ s) (ok : mag angle < 32768) where
+    pub clear_angle : (of_z w16 angle ≡ 0 → ⊥) → eqb (of_z w16 angle) 0 ≡ clear_at N angles modes s
     unfolding clear_at
-    clear_angle h = rw (le-ltb s N l, zero_bits angle ok ∙ ne_eqb _ 0 h)
+    clear_angle h = rw (le-ltb s N (rw q at l), zero_bits angle ok, ne_eqb _ 0 h)
 
     pub clear_mode : of_z w16 angle ≡ 0 → eqb (get_or modes s 0) 0 ≡ clear_at N angles modes s
     unfolding clear_at
-    clear_mode h = rw (le-ltb s N l, zero_bits angle ok ∙ eq-eqb _ 0 h)
+    clear_mode h = rw (le-ltb s N (rw q at l), zero_bits angle ok ∙ eq-eqb _ 0 h)
 
 module _ (angles : List ℤ) (modes : List ℕ) (s : ℕ) (ok : mag (get_or angles s (pos 0)) < 32768) (r : Bool)
     (e : r ≡ is_angle (to_z w16 (of_z w16 (get_or angles s (pos 0))))) where
   is-angle : is_angle (get_or angles s (pos 0)) ≡ r
   is-angle = sym (e ∙ ap is_angle (to_z-of_z w16 (get_or angles s (pos 0)) (record { sfits = ok })))
 
-  pub label_angle : not r ≡ true → false ≡ label_at angles modes s
+  pub label_angle : r ≡ false → r ≡ label_at angles modes s
   unfolding label_at
-  label_angle h = rw (is-angle ∙ not-true r h)
+  label_angle h = rw (is-angle, h)
 
-  pub label_mode : not r ≡ false → ltb (get_or modes s 0) 16 ≡ label_at angles modes s
+  pub label_mode : r ≡ true → ltb (get_or modes s 0) 16 ≡ label_at angles modes s
   unfolding label_at
-  label_mode h = rw (is-angle ∙ not-false r h)
+  label_mode h = rw (is-angle, h)
 
 -- ---- what no refusal says
 -- a sound table of at most 4,096 moves, its angles and modes in range and 0 from N up
@@ -228,25 +200,25 @@ module _ (c : Control) (room : ℕ) where
       let few_moves = le-leb (move_count c.table.rows) 4096 (rw (moves-are c) w.few_moves) in
       rw (w.lengths_ok, in-range c.table.size w.some w.few, w.sound, w.clear, w.labels, few_moves, le-leb (length (file_of c)) room h)
 
--- ---- the promise of `write`: k is the refusal
-module _ (c : Control) (out : List ℕ) (k : ℕ) (e : k ≡ write_refusal c (length out)) where
-  pub wrote_refused : (k ≡ 0 → ⊥) → Wrote c out (written.Refused k) out
-  unfolding writing unless_refused
-  wrote_refused h = go k e h
-    where
-      go : (k : ℕ) → k ≡ write_refusal c (length out) → (k ≡ 0 → ⊥) → Wrote c out (written.Refused k) out
-      go zero q h = absurd (h refl)
-      go (suc n) q h = record { answer = rw (← q); output = rw (← q) }
+-- ---- the promise of `write`: r is what the tests answer
+module _ (c : Control) (out : List ℕ) (r : Result (Unit {0}) Refusal) (e : refusal_of r ≡ write_refusal c (length out)) where
+  pub wrote_refused : (k : Refusal) → r ≡ Err k → (t : Result ℕ Refusal) → IsErrAnd t (λ f. f ≡ k) → Wrote c out t out
+  unfolding writing
+  wrote_refused k q t i =
+      let n : number_of k ≡ write_refusal c (length out) = sym (ap refusal_of q) ∙ e in
+      let a : refused (number_of k) ≡ writing c (length out) = err_said (file_of c) _ k n in
+      record { answer = rw (err_is i, ← a); output = rw (← a) }
 
-  module _ (z : k ≡ 0) where
-    pub file_room : FileRoom c out
-    file_room =
-        let (w, r) = writable c (length out) (sym e ∙ z) in
-        let lengths : Lengths c.angles c.modes = sized-lengths _ _ _ true (sym w.lengths_ok) refl in
-        record { room = record { room = omega arith }; size = record { lengths = lengths; few = w.few } }
+  module _ (z : r ≡ Ok tt) where
+    none : write_refusal c (length out) ≡ 0
+    none = sym e ∙ ap refusal_of z
 
-    pub wrote_file : (n : ℕ) (out' : List ℕ) → Put out 0 (file_of c) n out' → Wrote c out (written.Length n) out'
+    -- the file is put into an output that holds it; n is the place then
+    pub wrote_file : length out * 1 < 2 ^ 63 → {o later : Output} → Fresh out o → Appends o (file_of c) later → (n : ℕ) → n ≡ later.at → (out' : List ℕ)
+        → out' ≡ later.out.now → Wrote c out (Ok n) out'
     unfolding writing unless_refused
-    wrote_file n out' p =
-        let f : n ≡ length (file_of c) = p.next ∙ omega arith in
-        record { answer = rw (← e, z, f); output = rw (← e, z) p.output }
+    wrote_file h f p n e out' q =
+        let fits = fresh_fits (omega arith) f in
+        let (_, room) = writable c (length out) none in
+        let long : n ≡ length (file_of c) = omega (arith, p.place fits, f.place) in
+        record { answer = rw (none, long); output = rw (none, q, p.output fits, f.output, f.place) }

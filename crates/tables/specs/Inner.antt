@@ -1,47 +1,46 @@
 -- For the crate's own private functions, and no part of what a reader must believe: what they ask for and hand on.
-use Rattle.std.specs.Prelude.{ℕ, suc, ◌+◌, ◌-◌, ◌*◌, ◌≤◌, ◌<◌, Bool, true, List, ◌≡◌, ℤ, length}
-use Rattle.std.proofs.lemmas.List.Edits.{sets}
-use Rattle.answers.specs.Refusals.{no_refusal}
+use Rattle.std.specs.Prelude.{ℕ, ◌+◌, ◌-◌, ◌*◌, ◌≤◌, Bool, true, List, ◌≡◌, ℤ, length, Result, Ok, Err}
+use Rattle.answers.specs.Said.{number_of}
+use Rattle.answers.specs.declared.Refusal.{Refusal}
 use Rattle.moves.specs.Models.{Control}
 use Rattle.sets.specs.Lists.{tabulate}
-use Rattle.sets.specs.Sets.{Set, empty, member}
+use Rattle.sets.specs.Sets.{Set, member}
 use Rattle.tables.specs.Lists.{passing}
-use Rattle.tables.specs.Format.{Kind, count, number, move, Contents, Taken, refused_at, taken, and_then, entry, entries, contents, section_bytes}
-use Rattle.tables.specs.Control.{is_move, sized, file_of}
-use Rattle.tables.specs.declared.Step.{Step}
-use Rattle.tables.specs.declared.Step.TheVariants as step
-use Rattle.tables.specs.declared.counts.Counted.{Counted}
-use Rattle.tables.specs.declared.counts.Counted.TheVariants as counted
-use Rattle.tables.specs.declared.Reading.{Reading}
-
--- r is v, and below a bound
-pub record Small (bound v r : ℕ) : Type 0 where
-  pub is : r ≡ v
-  pub below : r < bound
+use Rattle.tables.specs.Format.{Kind, state, number, move, Section, states, numbers, moves, Contents}
+use Rattle.tables.specs.Format.{Taken, refused_at, taken, and_then, entries, contents, entries_bytes, section_bytes}
+use Rattle.tables.specs.Control.{state_number, is_move, sized}
+use Rattle.tables.specs.Said.{said_as}
+use Rattle.tables.specs.declared.Fault.{Fault}
+use Rattle.tables.specs.declared.entry.Section as named
+use Rattle.tables.specs.declared.entry.Section.TheVariants as by_name
+use Rattle.tables.specs.declared.counts.Counts.{Counts}
 
 -- the angles and the modes have a place for each of 256 states
-pub record Lengths (angles : List ℤ) (modes : List ℕ) : Type 0 where
-  pub angle_places : length angles ≡ 256
-  pub mode_places : length modes ≡ 256
-
--- and s is one of the places
-pub record PlaceIn (angles : List ℤ) (modes : List ℕ) (s : ℕ) : Type 0 where
-  pub lengths : Lengths angles modes
-  pub place : s < 256
+pub record Lengths (c : Control) : Type 0 where
+  pub angle_places : length c.angles ≡ 256
+  pub mode_places : length c.modes ≡ 256
 
 -- and N is no more than the places
-pub record SizeIn (angles : List ℤ) (modes : List ℕ) (N : ℕ) : Type 0 where
-  pub lengths : Lengths angles modes
-  pub few : N ≤ 256
+pub record SizeIn (c : Control) : Type 0 where
+  pub lengths : Lengths c
+  pub few : c.table.size ≤ 256
 
 -- ---- taking
--- a count, and the place past it
-unfoldable pub count_step : ℕ → ℕ → List ℕ → ℕ → Taken (ℕ × ℕ)
-count_step low high b at = and_then (entry (count low high) b at 0) (λ k. taken (k, at + 2))
+-- a section by its name
+abbrev pub section_named : named.Section → ℕ → Section
+section_named by_name.States N = states
+section_named by_name.Starts N = numbers N
+section_named by_name.Safe N = numbers N
+section_named by_name.Moves N = moves N
 
--- the least number above an entry, and the place past it
-unfoldable pub entry_step : Kind → List ℕ → ℕ → ℕ → Taken (ℕ × ℕ)
-entry_step K b at low = and_then (entry K b at low) (λ v. taken (suc v, at + K.width))
+-- the number that stands at a place, or the refusal
+abbrev pub said_at : ℕ → Result ℕ Refusal → Taken ℕ
+said_at at (Ok v) = taken v
+said_at at (Err r) = refused_at (number_of r) at
+
+-- .. with its byte offset
+abbrev pub said_number : Result ℕ Fault → Taken ℕ
+said_number = said_as (λ v. v)
 
 -- how many entries, and the place past them
 unfoldable pub entries_step : Kind → List ℕ → ℕ → ℕ → Taken (ℕ × ℕ)
@@ -49,9 +48,8 @@ entries_step K b at k = and_then (entries K b at 0 k) (λ vs. taken (length vs, 
 
 -- ---- the counts of a file
 -- those of a file that was taken; a refusal's number and the byte offset
-abbrev pub said_counted : Counted → Taken (ℕ × ℕ × ℕ × ℕ)
-said_counted (counted.Counts size starts safe moves) = taken (size, starts, safe, moves)
-said_counted (counted.Refused k at) = refused_at k at
+abbrev pub said_counts : Result Counts Fault → Taken (ℕ × ℕ × ℕ × ℕ)
+said_counts = said_as (λ c. (c.size, c.starts, c.safe, c.moves))
 
 -- those of contents, and of a file
 abbrev pub counts_of : Contents → ℕ × ℕ × ℕ × ℕ
@@ -60,21 +58,7 @@ counts_of l = (length l.states, length l.starts, length l.safe, length l.moves)
 unfoldable pub counts_read : List ℕ → Taken (ℕ × ℕ × ℕ × ℕ)
 counts_read b = and_then (contents b) (λ l. taken (counts_of l))
 
--- the refusal of a section that was not taken (one that was has none)
-abbrev pub refused_of : Step → Counted
-refused_of (step.Number v next) = counted.Refused no_refusal 0
-refused_of (step.Refused k at) = counted.Refused k at
-
 -- ---- filling
--- a refused reading's answer
-pub record Blank (k at : ℕ) (r : Reading) : Type 0 where
-  pub refusal : r.refusal ≡ k
-  pub offset : r.offset ≡ at
-  pub model_size : r.model.size ≡ 0
-  pub starts : r.model.starts.words ≡ empty
-  pub safe : r.model.safe.words ≡ empty
-  pub moves : r.moves ≡ 0
-
 -- the numbers of k entries from a place on
 unfoldable pub values : Kind → List ℕ → ℕ → ℕ → List ℕ
 values K b at k = tabulate k (λ i. K.value b (at + i * K.width))
@@ -85,12 +69,12 @@ pub record ToFill {A : Type 0} (b : List ℕ) (at k bytes : ℕ) (list : List A)
   pub long : length list ≡ places
 
 -- a file of these counts that was taken, and buffers of their lengths
-pub record Fillable (b : List ℕ) (size starts safe moves : ℕ) (rows : List ℕ) (angles : List ℤ) (modes : List ℕ) : Type 0 where
-  pub counted : counts_read b ≡ taken (size, starts, safe, moves)
+pub record Fillable (b : List ℕ) (c : Counts) (rows : List ℕ) (angles : List ℤ) (modes : List ℕ) : Type 0 where
+  pub counted : counts_read b ≡ taken (c.size, c.starts, c.safe, c.moves)
   pub lengths : sized rows angles modes ≡ true
-  pub within : 2 + size * 3 + 2 + starts * 2 + 2 + safe * 2 + 2 + moves * 4 ≤ length b
-  pub few_states : size ≤ 256
-  pub few_moves : moves ≤ 4096
+  pub within : 2 + c.size * 3 + 2 + c.starts * 2 + 2 + c.safe * 2 + 2 + c.moves * 4 ≤ length b
+  pub few_states : c.size ≤ 256
+  pub few_moves : c.moves ≤ 4096
   pub row_places : length rows ≡ 1024
   pub angle_places : length angles ≡ 256
   pub mode_places : length modes ≡ 256
@@ -104,6 +88,10 @@ member_from base x v = member x (v - base)
 abbrev pub members_from : ℕ → Set → List ℕ
 members_from base x = passing (member_from base x) base 256
 
+-- the entries of the states
+abbrev pub state_bytes : Control → List ℕ
+state_bytes c = entries_bytes state (tabulate c.table.size (state_number c.angles c.modes))
+
 -- the section of the members of x
 abbrev pub set_bytes : Set → List ℕ
 set_bytes x = section_bytes (number 0) (passing (member x) 0 256)
@@ -111,22 +99,3 @@ set_bytes x = section_bytes (number 0) (passing (member x) 0 256)
 -- the section of the moves
 abbrev pub move_bytes : List ℕ → List ℕ
 move_bytes rows = section_bytes (move 0) (passing (is_move rows) 0 16777216)
-
--- an output has room for bytes at a place
-pub record Room (out : List ℕ) (at : ℕ) (bytes : List ℕ) : Type 0 where
-  pub room : at + length bytes ≤ length out
-
--- bytes written at a place: the next place, and what the output holds then
-pub record Put (out : List ℕ) (at : ℕ) (bytes : List ℕ) (end : ℕ) (out' : List ℕ) : Type 0 where
-  pub next : end ≡ at + length bytes
-  pub output : out' ≡ sets out at bytes
-
--- room for the entries of N states, of which there are angles and modes
-pub record StateRoom (out : List ℕ) (at : ℕ) (bytes : List ℕ) (angles : List ℤ) (modes : List ℕ) (N : ℕ) : Type 0 where
-  pub room : Room out at bytes
-  pub size : SizeIn angles modes N
-
--- room for the file of a table
-pub record FileRoom (c : Control) (out : List ℕ) : Type 0 where
-  pub room : Room out 0 (file_of c)
-  pub size : SizeIn c.angles c.modes c.table.size

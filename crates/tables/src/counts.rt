@@ -1,57 +1,38 @@
 // The counts of a whole file, taken before anything is filled, or the first refusal.
 ghost use Rattle.std.specs.Prelude.{◌≡◌};
-ghost use Rattle.tables.specs.Inner.{said_counted, counts_read, refused_of};
+ghost use Rattle.tables.specs.Inner.{said_counts, counts_read};
 
-use crate::{Step, section_of};
+use crate::entry::Section;
+use crate::{Fault, Reader};
+use answers::Refusal;
 
+// How many states, starts, safe states and moves a file has.
 #[derive(Clone, Copy)]
-pub enum Counted {
-    Counts {
-        size: usize,
-        starts: usize,
-        safe: usize,
-        moves: usize,
-    },
-    Refused(u8, usize),
-}
-
-// The refusal of a section that was not taken.
-fn refused(s: Step) -> Counted
-    ensures { result ≡ refused_of s }
-{
-    match s {
-        Step::Number(_, _) => Counted::Refused(answers::NO_REFUSAL, 0),
-        Step::Refused(k, at) => Counted::Refused(k, at),
-    }
+pub struct Counts {
+    pub size: usize,
+    pub starts: usize,
+    pub safe: usize,
+    pub moves: usize,
 }
 
 // The four counts of a file that can be taken, or the first refusal.
-pub fn count(file: &[u8]) -> Counted
-    ensures { said_counted result ≡ counts_read file.now }
+pub fn count(file: &[u8]) -> Result<Counts, Fault>
+    ensures { said_counts result ≡ counts_read file.now }
 {
-    let a = section_of(file, 0, 1, 0);
-    let Step::Number(size, at2) = a else {
-        return refused(a);
-    };
-    let b = section_of(file, at2, 2, size);
-    let Step::Number(starts, at3) = b else {
-        return refused(b);
-    };
-    let c = section_of(file, at3, 3, size);
-    let Step::Number(safe, at4) = c else {
-        return refused(c);
-    };
-    let d = section_of(file, at4, 4, size);
-    let Step::Number(moves, end) = d else {
-        return refused(d);
-    };
-    if end < file.len() {
-        return Counted::Refused(answers::EXTRA_BYTES, end);
+    let states = Section::States.taken(&Reader { file, at: 0 }, 0)?;
+    let (size, at) = (states.number, states.next);
+    let starts = Section::Starts.taken(&Reader { file, at }, size)?;
+    let at = starts.next;
+    let safe = Section::Safe.taken(&Reader { file, at }, size)?;
+    let at = safe.next;
+    let moves = Section::Moves.taken(&Reader { file, at }, size)?;
+    if moves.next < file.len() {
+        return Err(Fault::new(Refusal::ExtraBytes, moves.next));
     }
-    Counted::Counts {
+    Ok(Counts {
         size,
-        starts,
-        safe,
-        moves,
-    }
+        starts: starts.number,
+        safe: safe.number,
+        moves: moves.number,
+    })
 }

@@ -1,182 +1,215 @@
-// Taking from a file: what stands at a place, or why it cannot be taken. A place may be any number.
-// Sections are numbered as in document 01: 1 states, 2 starts, 3 safe states, 4 moves.
-ghost use Rattle.std.specs.Prelude.{◌≡◌, ◌+◌, ◌<◌, ◌≤◌, leb, length};
-ghost use Rattle.tables.specs.Format.{bits16, signed, state, number, move, section_number};
+// Taking from a file: what stands where a reader is, or why it cannot be taken. A reader may be at any place.
+ghost use Rattle.std.specs.Prelude.{ℕ, ◌≡◌, ◌+◌, ◌<◌, ◌≤◌, leb, length};
+ghost use Rattle.tables.specs.Format.{bits16, signed, count, state, number, move, entry, section_number};
 ghost use Rattle.tables.specs.Said.{said, section_step};
-ghost use Rattle.tables.specs.Inner.{Small, count_step, entry_step, entries_step};
+ghost use Rattle.tables.specs.Inner.{section_named, said_at, said_number, entries_step};
 
-use crate::Step;
+use crate::{Fault, Reader, Taken};
+use answers::Refusal;
 
-// A byte as a number.
-pub fn wide(x: u8) -> usize
-    ensures { Small 256 x result }
-{
-    x as usize
+// The sections of a file, in their order.
+#[derive(Clone, Copy)]
+pub enum Section {
+    States,
+    Starts,
+    Safe,
+    Moves,
 }
 
-// The 16 bits at a place.
-pub fn bits16(file: &[u8], at: usize) -> usize
-    requires { at + 2 ≤ length file.now }
-    ensures { Small 65536 (bits16 file.now at) result }
-{
-    wide(file[at]) + 256 * wide(file[at + 1])
+impl From<usize> for Section {
+    ghost from_gives = { λ number section. (size : ℕ) → section_named section size ≡ section_number number size };
+
+    // By its number in a file: 1 to 4; any other number is as 2.
+    fn from(number: usize) -> Section {
+        match number {
+            1 => Section::States,
+            3 => Section::Safe,
+            4 => Section::Moves,
+            _ => Section::Starts,
+        }
+    }
 }
 
-// The integer that 16 bits are in two's complement.
-pub fn signed(u: usize) -> i16
-    requires { u < 65536 }
-    ensures { result ≡ signed u }
-{
-    if u < 32768 {
-        return u as i16;
+impl Reader<'_> {
+    // The 16 bits at the place.
+    #[tactic(auto, unfolding(crate::specs::Format::bits16))]
+    pub(crate) fn bits16(&self) -> u16
+        requires { self.now.at + 2 ≤ length self.now.file.now }
+        ensures { result ≡ bits16 self.now.file.now self.now.at }
+    {
+        u16::from_le_bytes([self.file[self.at], self.file[self.at + 1]])
     }
-    -1 - ((65535 - u) as i16)
-}
 
-// Whether the file has as many bytes from a place on.
-fn has(file: &[u8], at: usize, bytes: usize) -> bool
-    ensures { result ≡ leb (at + bytes) (length file.now) }
-{
-    if file.len() < at {
-        return false;
-    }
-    bytes <= file.len() - at
-}
-
-// A count from low to high, and the place past it.
-fn count_at(file: &[u8], at: usize, low: usize, high: usize) -> Step
-    ensures { said result ≡ count_step low high file.now at }
-{
-    if !has(file, at, 2) {
-        return Step::Refused(answers::CUT_SHORT, at);
-    }
-    let v = bits16(file, at);
-    if v < low {
-        return Step::Refused(answers::OUT_OF_RANGE, at);
-    }
-    if high < v {
-        return Step::Refused(answers::OUT_OF_RANGE, at);
-    }
-    Step::Number(v, at + 2)
-}
-
-// Past an angle and a mode.
-fn labels_at(file: &[u8], at: usize) -> Step
-    ensures { said result ≡ entry_step state file.now at 0 }
-{
-    if !has(file, at, 3) {
-        return Step::Refused(answers::CUT_SHORT, at);
-    }
-    let u = bits16(file, at);
-    let m = wide(file[at + 2]);
-    if !turns::is_angle(signed(u)) {
-        return Step::Refused(answers::BAD_LABEL, at);
-    }
-    if 16 <= m {
-        return Step::Refused(answers::BAD_LABEL, at);
-    }
-    Step::Number(u * 256 + m + 1, at + 3)
-}
-
-// Past a state number below N that is at least low.
-fn number_at(file: &[u8], at: usize, size: usize, low: usize) -> Step
-    ensures { said result ≡ entry_step (number size) file.now at low }
-{
-    if !has(file, at, 2) {
-        return Step::Refused(answers::CUT_SHORT, at);
-    }
-    let v = bits16(file, at);
-    if size <= v {
-        return Step::Refused(answers::NO_SUCH_STATE, at);
-    }
-    if v < low {
-        return Step::Refused(answers::NOT_RISING, at);
-    }
-    Step::Number(v + 1, at + 2)
-}
-
-// Past two state numbers below N, which make one number that is at least low.
-fn move_at(file: &[u8], at: usize, size: usize, low: usize) -> Step
-    ensures { said result ≡ entry_step (move size) file.now at low }
-{
-    if !has(file, at, 4) {
-        return Step::Refused(answers::CUT_SHORT, at);
-    }
-    let from = bits16(file, at);
-    let to = bits16(file, at + 2);
-    if size <= from {
-        return Step::Refused(answers::NO_SUCH_STATE, at);
-    }
-    if size <= to {
-        return Step::Refused(answers::NO_SUCH_STATE, at);
-    }
-    let v = from * 65536 + to;
-    if v < low {
-        return Step::Refused(answers::NOT_RISING, at);
-    }
-    Step::Number(v + 1, at + 4)
-}
-
-// Past an entry of a section: the least number above it, and the next place.
-fn entry_at(file: &[u8], at: usize, section: usize, size: usize, low: usize) -> Step
-    ensures { said result ≡ entry_step (section_number section size).kind file.now at low }
-{
-    if section == 1 {
-        return labels_at(file, at);
-    }
-    if section == 4 {
-        return move_at(file, at, size, low);
-    }
-    number_at(file, at, size, low)
-}
-
-// Past k entries of a section.
-fn entries(file: &[u8], start: usize, section: usize, size: usize, k: usize) -> Step
-    ensures { said result ≡ entries_step (section_number section size).kind file.now start k }
-{
-    let mut at = start;
-    let mut low: usize = 0;
-    for i in 0..k {
-        let e = entry_at(file, at, section, size, low);
-        let Step::Number(above, next) = e else {
-            return e;
+    // The 16 bits at the place, and those after them.
+    pub(crate) fn ends(&self) -> (u16, u16)
+        requires { self.now.at + 4 ≤ length self.now.file.now }
+        ensures { (result.0 ≡ bits16 self.now.file.now self.now.at) × (result.1 ≡ bits16 self.now.file.now (self.now.at + 2)) }
+    {
+        let after = Reader {
+            at: self.at + 2,
+            ..*self
         };
-        low = above;
-        at = next;
+        (self.bits16(), after.bits16())
     }
-    Step::Number(k, at)
+
+    // The integer that the 16 bits at the place are in two's complement.
+    pub(crate) fn signed(&self) -> i16
+        requires { self.now.at + 2 ≤ length self.now.file.now }
+        ensures { result ≡ signed (bits16 self.now.file.now self.now.at) }
+    {
+        i16::from_le_bytes([self.file[self.at], self.file[self.at + 1]])
+    }
+
+    // Whether the file has as many bytes from the place on.
+    fn has(&self, bytes: usize) -> bool
+        ensures { result ≡ leb (self.now.at + bytes) (length self.now.file.now) }
+    {
+        self.at <= self.file.len() && bytes <= self.file.len() - self.at
+    }
+
+    // A number, or why there is none at the place.
+    fn placed(&self, number: Result<u32, Refusal>) -> Result<u32, Fault>
+        ensures { said_number result ≡ said_at self.now.at number }
+    {
+        let at = self.at;
+        number.map_err(|refusal| Fault::new(refusal, at))
+    }
+
+    // A count from low to high.
+    fn count(&self, low: usize, high: usize) -> Result<u32, Refusal>
+        ensures { said_at self.now.at result ≡ entry (count low high) self.now.file.now self.now.at 0 }
+    {
+        if !self.has(2) {
+            return Err(Refusal::CutShort);
+        }
+        let number = u32::from(self.bits16());
+        if (number as usize) < low || high < number as usize {
+            return Err(Refusal::OutOfRange);
+        }
+        Ok(number)
+    }
+
+    // An angle and a mode.
+    fn labels(&self) -> Result<u32, Refusal>
+        ensures { said_at self.now.at result ≡ entry state self.now.file.now self.now.at 0 }
+    {
+        if !self.has(3) {
+            return Err(Refusal::CutShort);
+        }
+        let mode = self.file[self.at + 2];
+        if !turns::is_angle(self.signed()) || 16 <= mode {
+            return Err(Refusal::BadLabel);
+        }
+        Ok(u32::from(self.bits16()) * 256 + u32::from(mode))
+    }
+
+    // A state number below N that is at least low.
+    fn number(&self, size: usize, low: usize) -> Result<u32, Refusal>
+        ensures { said_at self.now.at result ≡ entry (number size) self.now.file.now self.now.at low }
+    {
+        if !self.has(2) {
+            return Err(Refusal::CutShort);
+        }
+        let state = u32::from(self.bits16());
+        if size <= state as usize {
+            return Err(Refusal::NoSuchState);
+        }
+        if (state as usize) < low {
+            return Err(Refusal::NotRising);
+        }
+        Ok(state)
+    }
+
+    // Two state numbers below N, which make one number that is at least low.
+    fn pair(&self, size: usize, low: usize) -> Result<u32, Refusal>
+        ensures { said_at self.now.at result ≡ entry (move size) self.now.file.now self.now.at low }
+    {
+        if !self.has(4) {
+            return Err(Refusal::CutShort);
+        }
+        let (from, to) = self.ends();
+        let (from, to) = (u32::from(from), u32::from(to));
+        if size <= from as usize || size <= to as usize {
+            return Err(Refusal::NoSuchState);
+        }
+        let number = from * 65536 + to;
+        if (number as usize) < low {
+            return Err(Refusal::NotRising);
+        }
+        Ok(number)
+    }
 }
 
-// The least number of entries in a section.
-fn least(section: usize) -> usize
-    ensures { result ≡ (section_number section 0).least }
-{
-    if section == 1 {
-        return 1;
+impl Section {
+    // An entry where the reader is that is at least low, where the section's entries rise.
+    fn entry(self, reader: &Reader, size: usize, low: usize) -> Result<u32, Fault>
+        ensures { said_number result ≡ entry (section_named self size).kind reader.now.file.now reader.now.at low }
+    {
+        let number = match self {
+            Section::States => reader.labels(),
+            Section::Starts | Section::Safe => reader.number(size, low),
+            Section::Moves => reader.pair(size, low),
+        };
+        reader.placed(number)
     }
-    0
-}
 
-// The greatest number of entries in a section, of a file of N states.
-fn most(section: usize, size: usize) -> usize
-    ensures { result ≡ (section_number section size).most }
-{
-    if section == 1 {
-        return 256;
+    // Past k entries from where the reader is.
+    fn entries(self, start: &Reader, size: usize, k: usize) -> Result<Taken, Fault>
+        ensures { said result ≡ entries_step (section_named self size).kind start.now.file.now start.now.at k }
+    {
+        let Reader { file, mut at } = *start;
+        let mut low: usize = 0;
+        for i in 0..k {
+            low = self.entry(&Reader { file, at }, size, low)? as usize + 1;
+            at += self.width();
+        }
+        Ok(Taken {
+            number: k,
+            next: at,
+        })
     }
-    if section == 4 {
-        return 4096;
-    }
-    size
-}
 
-// A section: how many entries, and the place past it.
-pub fn section_at(file: &[u8], at: usize, section: usize, size: usize) -> Step
-    ensures { said result ≡ section_step (section_number section size) file.now at }
-{
-    let c = count_at(file, at, least(section), most(section, size));
-    let Step::Number(k, next) = c else {
-        return c;
-    };
-    entries(file, next, section, size, k)
+    // The width of an entry in bytes.
+    fn width(self) -> usize
+        ensures { (size : ℕ) → result ≡ (section_named self size).kind.width }
+    {
+        match self {
+            Section::States => 3,
+            Section::Starts | Section::Safe => 2,
+            Section::Moves => 4,
+        }
+    }
+
+    // The least number of entries.
+    fn least(self) -> usize
+        ensures { (size : ℕ) → result ≡ (section_named self size).least }
+    {
+        match self {
+            Section::States => 1,
+            Section::Starts | Section::Safe | Section::Moves => 0,
+        }
+    }
+
+    // The greatest number of entries, in a file of N states.
+    fn most(self, size: usize) -> usize
+        ensures { result ≡ (section_named self size).most }
+    {
+        match self {
+            Section::States => 256,
+            Section::Starts | Section::Safe => size,
+            Section::Moves => 4096,
+        }
+    }
+
+    // The section where the reader is: how many entries, and the place past it.
+    pub fn taken(self, reader: &Reader, size: usize) -> Result<Taken, Fault>
+        ensures { said result ≡ section_step (section_named self size) reader.now.file.now reader.now.at }
+    {
+        let k = reader.placed(reader.count(self.least(), self.most(size)))?;
+        let first = Reader {
+            at: reader.at + 2,
+            ..*reader
+        };
+        self.entries(&first, size, k as usize)
+    }
 }

@@ -6,14 +6,16 @@
 #![tactic(auto)]
 
 ghost use Rattle.std.specs.Prelude.{◌≡◌};
-ghost use Rattle.moves.specs.Models.{on, control};
+ghost use Rattle.moves.specs.Models.{as_control};
 ghost use Rattle.tables.specs.Format.{section_number};
-ghost use Rattle.tables.specs.Said.{said, section_step, number_of, offset_of, Read, Wrote};
-ghost use Rattle.tables.specs.Inner.{said_counted, Blank, Fillable};
+ghost use Rattle.tables.specs.Said.{said, section_step, Read, Wrote};
+ghost use Rattle.tables.specs.Inner.{Fillable};
 
-use counts::Counted;
-use moves::Model;
-use sets::StateSet;
+use answers::Refusal;
+use counts::Counts;
+use entry::Section;
+use moves::{Control, Model};
+use outputs::Output;
 
 mod counts;
 mod entry;
@@ -21,29 +23,34 @@ mod fill;
 mod put;
 mod refusals;
 
-// What taking an entry or a section gives: a number (the entry's, or how many entries) and the place
-// past it; or a refusal's number and the byte offset.
-#[derive(Clone, Copy)]
-pub enum Step {
-    Number(usize, usize),
-    Refused(u8, usize),
+// A section that was taken: how many entries, and the place past it.
+#[derive(Clone, Copy, Debug, PartialEq, Eq)]
+pub struct Taken {
+    pub number: usize,
+    pub next: usize,
 }
 
-// What `read` answers: a refusal number and its byte offset, both 0 where there is none; the table but
-// for its moves, and the number of moves: 0 and empty where refused.
-#[derive(Clone, Copy)]
-pub struct Reading {
-    pub refusal: u8,
+// Why a file is refused, and at which byte offset.
+#[derive(Clone, Copy, Debug, PartialEq, Eq)]
+pub struct Fault {
+    pub refusal: Refusal,
     pub offset: usize,
+}
+
+impl Fault {
+    // A refusal at a byte offset.
+    fn new(refusal: Refusal, offset: usize) -> Fault
+        ensures { result ≡ record { refusal = refusal; offset = offset } }
+    {
+        Fault { refusal, offset }
+    }
+}
+
+// A table that was read, but for its moves, and the number of moves.
+#[derive(Clone, Copy, Debug, PartialEq, Eq)]
+pub struct Reading {
     pub model: Model,
     pub moves: u16,
-}
-
-// What `write` answers: the file's length, or a refusal's number.
-#[derive(Clone, Copy)]
-pub enum Written {
-    Length(usize),
-    Refused(u8),
 }
 
 // A lent file, and a place in it.
@@ -63,117 +70,70 @@ pub fn open_at<'a>(file: &'a [u8], at: usize) -> Reader<'a>
 // What the reader takes as a section of a file of N states: how many entries, and the place past it.
 // Sections are numbered as in document 01: 1 states, 2 starts, 3 safe states, 4 moves; any other
 // number is as 2.
-pub fn take<'a>(r: Reader<'a>, section: usize, size: usize) -> Step
+pub fn take<'a>(r: Reader<'a>, section: usize, size: usize) -> Result<Taken, Fault>
     ensures { said result ≡ section_step (section_number section size) r.entry.file.now r.entry.at }
 {
-    entry::section_at(r.file, r.at, section, size)
+    Section::from(section).taken(&r, size)
 }
 
 // The same of a file and a place.
-pub fn section_of(file: &[u8], at: usize, section: usize, size: usize) -> Step
+pub fn section_of(file: &[u8], at: usize, section: usize, size: usize) -> Result<Taken, Fault>
     ensures { said result ≡ section_step (section_number section size) file.now at }
 {
     take(open_at(file, at), section, size)
 }
 
-// A refused reading.
-fn refused(refusal: u8, offset: usize) -> Reading
-    ensures { Blank refusal offset result }
-{
-    let none = StateSet::EMPTY;
-    let model = Model {
-        size: 0,
-        starts: none,
-        safe: none,
-    };
-    Reading {
-        refusal,
-        offset,
-        model,
-        moves: 0,
-    }
-}
-
-// The reading of a file that was not taken.
-fn stopped(c: Counted) -> Reading
-    ensures { Blank (number_of (said_counted c)) (offset_of (said_counted c)) result }
-{
-    match c {
-        Counted::Counts {
-            size: _,
-            starts: _,
-            safe: _,
-            moves: _,
-        } => refused(answers::NO_REFUSAL, 0),
-        Counted::Refused(k, at) => refused(k, at),
-    }
-}
-
 // The reading of a file that was taken, by its counts.
 fn filled(
     file: &[u8],
-    size: usize,
-    starts: usize,
-    safe: usize,
-    k: usize,
+    counts: &Counts,
     moves: &mut [u64],
     angles: &mut [i16],
     modes: &mut [u8],
 ) -> Reading
-    requires { Fillable file.now size starts safe k moves.old angles.old modes.old }
-    ensures { Read file.now moves.old angles.old modes.old
-        result moves.new angles.new modes.new }
+    requires { Fillable file.now counts.now moves.old angles.old modes.old }
+    ensures { Read file.now moves.old angles.old modes.old (Ok result) moves.new angles.new modes.new }
 {
-    let at_starts = 2 + size * 3 + 2;
-    let at_safe = at_starts + starts * 2 + 2;
-    let at_moves = at_safe + safe * 2 + 2;
+    let at_starts = 2 + counts.size * 3 + 2;
+    let at_safe = at_starts + counts.starts * 2 + 2;
+    let at_moves = at_safe + counts.safe * 2 + 2;
+    fill::fill_moves(file, at_moves, counts.moves, moves);
+    fill::fill_angles(file, counts.size, angles);
+    fill::fill_modes(file, counts.size, modes);
     let model = Model {
-        size: size as u16,
-        starts: fill::set_of(file, at_starts, starts),
-        safe: fill::set_of(file, at_safe, safe),
+        size: counts.size as u16,
+        starts: fill::set_of(file, at_starts, counts.starts),
+        safe: fill::set_of(file, at_safe, counts.safe),
     };
-    fill::fill_moves(file, at_moves, k, moves);
-    fill::fill_angles(file, size, angles);
-    fill::fill_modes(file, size, modes);
     Reading {
-        refusal: answers::NO_REFUSAL,
-        offset: 0,
         model,
-        moves: k as u16,
+        moves: counts.moves as u16,
     }
 }
 
 // Reads a file into the move table (1,024 words), 256 angles and 256 modes.
-pub fn read(file: &[u8], moves: &mut [u64], angles: &mut [i16], modes: &mut [u8]) -> Reading
+pub fn read(
+    file: &[u8],
+    moves: &mut [u64],
+    angles: &mut [i16],
+    modes: &mut [u8],
+) -> Result<Reading, Fault>
     ensures { Read file.now moves.old angles.old modes.old
         result moves.new angles.new modes.new }
 {
     if !refusals::sized(moves, angles, modes) {
-        return refused(answers::WRONG_LENGTH, 0);
+        return Err(Fault::new(Refusal::WrongLength, 0));
     }
-    let c = counts::count(file);
-    let Counted::Counts {
-        size,
-        starts,
-        safe,
-        moves: k,
-    } = c
-    else {
-        return stopped(c);
-    };
-    filled(file, size, starts, safe, k, moves, angles, modes)
+    let counts = counts::count(file)?;
+    Ok(filled(file, &counts, moves, angles, modes))
 }
 
-// Writes a table's file to the front of an output: its move table (1,024 words), its N, starts and
-// safe states, 256 angles and 256 modes.
-pub fn write(moves: &[u64], model: Model, angles: &[i16], modes: &[u8], out: &mut [u8]) -> Written
-    ensures { Wrote (control (on model moves.now) angles.now modes.now)
-        out.old result out.new }
+// Writes a table's file to the front of an output, and answers its length.
+pub fn write(control: &Control, out: &mut [u8]) -> Result<usize, Refusal>
+    ensures { Wrote (as_control control.now) out.old result out.new }
 {
-    let k = refusals::refusal(moves, model, angles, modes, out.len());
-    if k != answers::NO_REFUSAL {
-        return Written::Refused(k);
-    }
-    let length = put::put_file(out, moves, model, angles, modes);
-    Written::Length(length)
+    refusals::test(control, out.len())?;
+    let mut output = Output::new(out);
+    put::put_file(&mut output, control);
+    Ok(output.place())
 }

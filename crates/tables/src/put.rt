@@ -1,134 +1,107 @@
-// Writing a file's bytes: 16 bits, entries, sections, the whole. Each writes at a place and answers the next.
+// Putting a file's bytes into an output, one part after another: 16 bits, entries, sections, the whole.
 ghost use Rattle.std.specs.Prelude.{◌≡◌, ◌*◌};
-ghost use Rattle.moves.specs.Models.{on, control};
-ghost use Rattle.sets.specs.Lists.{tabulate};
+ghost use Rattle.moves.specs.Models.{as_control};
+ghost use Rattle.outputs.specs.Appends.{Appends};
 ghost use Rattle.tables.specs.Lists.{passing};
-ghost use Rattle.tables.specs.Format.{bytes16, unsigned, entries_bytes, section_number, state, move};
+ghost use Rattle.tables.specs.Format.{bytes16, entries_bytes, move};
 ghost use Rattle.tables.specs.Control.{state_number, is_move, file_of};
-ghost use Rattle.tables.specs.Inner.{Small, PlaceIn, members_from, set_bytes, move_bytes, Room, Put, StateRoom, FileRoom};
+ghost use Rattle.tables.specs.Inner.{section_named, members_from, state_bytes, set_bytes, move_bytes};
 
-use crate::entry::wide;
-use moves::{Model, count_moves};
+use crate::entry::Section;
+use moves::{Control, count_moves};
+use outputs::Output;
 use sets::StateSet;
 
 // 16 bits.
-fn put_bits16(out: &mut [u8], at: usize, v: usize) -> usize
-    requires { Room out.old at (bytes16 v) }
-    ensures { Put out.old at (bytes16 v) result out.new }
+fn put_bits16(out: &mut Output, v: usize)
+    ensures { Appends out.old (bytes16 v) out.new }
 {
-    out[at] = (v % 256) as u8;
-    out[at + 1] = (v / 256 % 256) as u8;
-    at + 2
+    out.text(&v.to_le_bytes()[..2]);
 }
 
 // An entry of a section.
-fn put_entry(out: &mut [u8], at: usize, section: usize, v: usize) -> usize
-    requires { Room out.old at ((section_number section 0).kind.bytes v) }
-    ensures { Put out.old at ((section_number section 0).kind.bytes v) result out.new }
+fn put_entry(out: &mut Output, section: Section, v: usize)
+    ensures { Appends out.old ((section_named section 0).kind.bytes v) out.new }
 {
-    if section == 1 {
-        let at_mode = put_bits16(out, at, v / 256);
-        out[at_mode] = (v % 256) as u8;
-        return at_mode + 1;
+    match section {
+        Section::States => {
+            put_bits16(out, v / 256);
+            out.byte((v % 256) as u8);
+        }
+        Section::Starts | Section::Safe => put_bits16(out, v),
+        Section::Moves => {
+            put_bits16(out, v / 65536);
+            put_bits16(out, v % 65536);
+        }
     }
-    if section == 4 {
-        let at_to = put_bits16(out, at, v / 65536);
-        return put_bits16(out, at_to, v % 65536);
-    }
-    put_bits16(out, at, v)
 }
 
 // The entries from * 65536 + s of a section, for the members s of x: with `from` 0 the state numbers,
 // with a row's state its moves.
-fn put_members(out: &mut [u8], start: usize, section: usize, from: u16, x: StateSet) -> usize
-    requires { Room out.old start (entries_bytes (section_number section 0).kind (members_from (from * 65536) x.words)) }
-    ensures { Put out.old start (entries_bytes (section_number section 0).kind (members_from (from * 65536) x.words))
-        result out.new }
+fn put_members(out: &mut Output, section: Section, from: u16, x: StateSet)
+    ensures { Appends out.old (entries_bytes (section_named section 0).kind (members_from (from * 65536) x.words))
+        out.new }
 {
-    let base = (from as usize) * 65536;
-    let mut at = start;
+    let base = usize::from(from) * 65536;
     for s in 0..256 {
         if x.member(s) {
-            at = put_entry(out, at, section, base + (s as usize));
+            put_entry(out, section, base + usize::from(s));
         }
     }
-    at
 }
 
 // The section of the members of x.
-fn put_set(out: &mut [u8], at: usize, x: StateSet) -> usize
-    requires { Room out.old at (set_bytes x.words) }
-    ensures { Put out.old at (set_bytes x.words) result out.new }
+fn put_set(out: &mut Output, x: StateSet)
+    ensures { Appends out.old (set_bytes x.words) out.new }
 {
-    let next = put_bits16(out, at, x.count() as usize);
-    put_members(out, next, 2, 0, x)
+    put_bits16(out, usize::from(x.count()));
+    put_members(out, Section::Starts, 0, x);
 }
 
 // The entries of the moves.
-fn put_rows(out: &mut [u8], start: usize, moves: &[u64]) -> usize
-    requires { Room out.old start (entries_bytes (move 0) (passing (is_move moves.now) 0 16777216)) }
-    ensures { Put out.old start (entries_bytes (move 0) (passing (is_move moves.now) 0 16777216)) result out.new }
+fn put_rows(out: &mut Output, moves: &[u64])
+    ensures { Appends out.old (entries_bytes (move 0) (passing (is_move moves.now) 0 16777216)) out.new }
 {
-    let mut at = start;
     for from in 0..256 {
-        let row = StateSet::read(moves, 4 * (from as usize));
-        at = put_members(out, at, 4, from, row);
+        let row = StateSet::read(moves, 4 * usize::from(from));
+        put_members(out, Section::Moves, from, row);
     }
-    at
 }
 
 // The section of the moves.
-fn put_moves(out: &mut [u8], at: usize, moves: &[u64]) -> usize
-    requires { Room out.old at (move_bytes moves.now) }
-    ensures { Put out.old at (move_bytes moves.now) result out.new }
+fn put_moves(out: &mut Output, moves: &[u64])
+    ensures { Appends out.old (move_bytes moves.now) out.new }
 {
-    let next = put_bits16(out, at, count_moves(moves));
-    put_rows(out, next, moves)
+    put_bits16(out, count_moves(moves));
+    put_rows(out, moves);
 }
 
-// The bits of an integer in two's complement.
-fn unsigned(a: i16) -> usize
-    ensures { Small 65536 (unsigned a) result }
+// The entry of state s; an angle or a mode that is not there is 0.
+fn state_from(control: &Control, s: usize) -> usize
+    ensures { let c = as_control control.now in result ≡ state_number c.angles c.modes s }
 {
-    if 0 <= a {
-        return a as usize;
+    let angle = control.angles.get(s).copied().unwrap_or(0);
+    let mode = control.modes.get(s).copied().unwrap_or(0);
+    usize::from(angle.cast_unsigned()) * 256 + usize::from(mode)
+}
+
+// The entries of the states.
+fn put_states(out: &mut Output, control: &Control)
+    ensures { Appends out.old (state_bytes (as_control control.now)) out.new }
+{
+    for s in 0..usize::from(control.table.model.size) {
+        put_entry(out, Section::States, state_from(control, s));
     }
-    65535 - ((-1 - a) as usize)
-}
-
-// The entry of state s.
-fn state_from(angles: &[i16], modes: &[u8], s: usize) -> usize
-    requires { PlaceIn angles.now modes.now s }
-    ensures { result ≡ state_number angles.now modes.now s }
-{
-    unsigned(angles[s]) * 256 + wide(modes[s])
-}
-
-// The entries of N states.
-fn put_states(out: &mut [u8], start: usize, angles: &[i16], modes: &[u8], size: u16) -> usize
-    requires { StateRoom out.old start (entries_bytes state (tabulate size (state_number angles.now modes.now)))
-        angles.now modes.now size }
-    ensures { Put out.old start (entries_bytes state (tabulate size (state_number angles.now modes.now)))
-        result out.new }
-{
-    let mut at = start;
-    for s in 0..size as usize {
-        let v = state_from(angles, modes, s);
-        at = put_entry(out, at, 1, v);
-    }
-    at
 }
 
 // The whole file of a table.
-pub fn put_file(out: &mut [u8], moves: &[u64], model: Model, angles: &[i16], modes: &[u8]) -> usize
-    requires { FileRoom (control (on model moves.now) angles.now modes.now) out.old }
-    ensures { Put out.old 0 (file_of (control (on model moves.now) angles.now modes.now))
-        result out.new }
+pub fn put_file(out: &mut Output, control: &Control)
+    ensures { Appends out.old (file_of (as_control control.now)) out.new }
 {
-    let size = model.size;
-    let at_states = put_bits16(out, 0, size as usize);
-    let at_starts = put_states(out, at_states, angles, modes, size);
-    let at_safe = put_set(out, at_starts, model.starts);
-    let at_moves = put_set(out, at_safe, model.safe);
-    put_moves(out, at_moves, moves)
+    let model = control.table.model;
+    put_bits16(out, usize::from(model.size));
+    put_states(out, control);
+    put_set(out, model.starts);
+    put_set(out, model.safe);
+    put_moves(out, control.table.moves);
 }

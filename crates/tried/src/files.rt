@@ -1,170 +1,142 @@
 // Files: read and written.
-use crate::lent::length;
-use crate::print::{at, named, number, word};
-use crate::{lent, names, print};
+use crate::lent::{Lending, Lent, Words, first, first_mut};
+use crate::print;
+use crate::print::Hex;
+use answers::Refusal;
+use moves::{Control, Model, Table};
+use sets::StateSet;
 use std::io;
-use tables::{Reading, Written};
+use tables::{Fault, Reading};
 
-// A reading's refusal and its offset, N, and the numbers of starts, safe states and moves.
-fn reading(rt: &impl Print, r: Reading) -> io::Result<()> {
-    let no = r.refusal;
-    if no != 0 {
-        print::refused(rt, no)?;
-        named(rt, names::AT, r.offset as u64)?;
-    }
-    let k = r.model;
-    let starts = k.starts;
-    let safe = k.safe;
-    named(rt, names::MODEL, k.size as u64)?;
-    number(rt, starts.count() as u64)?;
-    number(rt, safe.count() as u64)?;
-    number(rt, r.moves as u64)?;
-    print::say(rt, names::END)
+// What a file is read into.
+#[derive(Drop)]
+struct Buffers {
+    moves: [u64; 1025],
+    angles: [i16; 257],
+    modes: [u8; 257],
 }
 
-fn wide(b: u8) -> u64 {
-    b as u64
-}
+impl Buffers {
+    const SEVENS: Buffers = Buffers {
+        moves: [7; 1025],
+        angles: [7; 257],
+        modes: [7; 257],
+    };
 
-// The labels of a state.
-fn mode(rt: &impl Print, b: &[u8], s: usize) -> io::Result<()> {
-    if s < b.len() {
-        number(rt, wide(b[s]))?;
-    }
-    Ok(())
-}
-
-fn angle(rt: &impl Print, b: &[i16], s: usize) -> io::Result<()> {
-    if s < b.len() {
-        print::angle(rt, b[s])?;
-    }
-    Ok(())
-}
-
-// The first words of rows 0, 1 and 2 and the last word of the table.
-fn rows(rt: &impl Print, m: &[u64]) -> io::Result<()> {
-    print::say(rt, names::SPACE)?;
-    word(rt, names::ROWS)?;
-    print::words(rt, &[at(m, 0), at(m, 4), at(m, 8), at(m, 1023)], true)
-}
-
-// The labels of states 0, 1, 2 and 255.
-fn labels(rt: &impl Print, a: &[i16], d: &[u8]) -> io::Result<()> {
-    word(rt, names::ANGLES)?;
-    angle(rt, a, 0)?;
-    angle(rt, a, 1)?;
-    angle(rt, a, 2)?;
-    angle(rt, a, 255)?;
-    word(rt, names::MODES)?;
-    mode(rt, d, 0)?;
-    mode(rt, d, 1)?;
-    mode(rt, d, 2)?;
-    mode(rt, d, 255)
-}
-
-fn written(rt: &impl Print, w: Written) -> io::Result<()> {
-    match w {
-        Written::Length(n) => named(rt, names::LENGTH, n as u64),
-        Written::Refused(no) => print::refused(rt, no),
-    }
-}
-
-// Whether what was written again is the file.
-fn same(rt: &impl Print, yes: bool) -> io::Result<()> {
-    print::say(rt, names::END)?;
-    print::say(rt, names::SPACE)?;
-    if yes {
-        word(rt, names::THE)?;
-        word(rt, names::SAME)?;
-    } else {
-        word(rt, names::OTHER)?;
-    }
-    word(rt, names::BYTES)
-}
-
-// The table of a file written to an output of the file's length.
-fn back(
-    rt: &impl Print,
-    r: Reading,
-    moves: &[u64],
-    angles: &[i16],
-    modes: &[u8],
-    file: &[u8],
-    out: &mut [u8],
-) -> io::Result<()> {
-    let k = r.model;
-    written(rt, tables::write(moves, k, angles, modes, out))?;
-    same(rt, *out == *file)
-}
-
-// Reads a file into buffers of 7s, and prints the reading and what they hold; or writes the table back.
-fn read(rt: &impl Print, m: &[u64], c: u64, file: &[u8]) -> io::Result<()> {
-    let mut moves = [7; 1025];
-    let mut angles = [7; 257];
-    let mut modes = [7; 257];
-    let r = tables::read(
-        file,
-        lent::words_mut(&mut moves, length(m, lent::LENGTHS)),
-        lent::angles_mut(&mut angles, length(m, lent::LABELS)),
-        lent::bytes_mut(&mut modes, length(m, lent::LABELS + 1)),
-    );
-    if c == names::BACK {
-        let mut out = [7; 18184];
-        return back(
-            rt,
-            r,
-            lent::part(&moves, 0, length(m, lent::LENGTHS)),
-            lent::angles(&angles, length(m, lent::LABELS)),
-            lent::bytes(&modes, length(m, lent::LABELS + 1)),
+    fn read(&mut self, words: &Words, file: &[u8]) -> Result<Reading, Fault> {
+        tables::read(
             file,
-            lent::bytes_mut(&mut out, file.len()),
-        );
+            first_mut(&mut self.moves, words.length(Lending::Moves)),
+            first_mut(&mut self.angles, words.length(Lending::Angles)),
+            first_mut(&mut self.modes, words.length(Lending::Modes)),
+        )
     }
-    reading(rt, r)?;
-    if r.refusal != 7 {
-        rows(rt, &moves)?;
-        labels(rt, &angles, &modes)?;
+
+    // The table that was read, of a model.
+    fn control(&self, words: &Words, model: Model) -> Control<'_> {
+        Control {
+            table: Table {
+                model,
+                moves: first(&self.moves, words.length(Lending::Moves)),
+            },
+            angles: first(&self.angles, words.length(Lending::Angles)),
+            modes: first(&self.modes, words.length(Lending::Modes)),
+        }
     }
-    Ok(())
+
+    // The first words of rows 0, 1 and 2, the last word of the table, and the labels of states 0, 1, 2 and 255.
+    fn show(&self, rt: &impl Print) -> io::Result<()> {
+        let words = [
+            self.moves[0],
+            self.moves[4],
+            self.moves[8],
+            self.moves[1023],
+        ];
+        let rows = Hex(&words);
+        print!(rt; "  rows{rows} angles")?;
+        for state in [0, 1, 2, 255] {
+            let angle = self.angles[state];
+            print!(rt; " {angle}")?;
+        }
+        print!(rt; " modes")?;
+        for state in [0, 1, 2, 255] {
+            let mode = self.modes[state];
+            print!(rt; " {mode}")?;
+        }
+        Ok(())
+    }
 }
 
-// Writes the script's table.
-fn write(
-    rt: &impl Print,
-    m: &[u64],
-    angles: &[i16],
-    modes: &[u8],
-    out: &mut [u8],
-) -> io::Result<()> {
-    written(
-        rt,
-        tables::write(
-            lent::moves(m),
-            lent::model(m),
-            lent::angles(angles, length(m, lent::LABELS)),
-            lent::bytes(modes, length(m, lent::LABELS + 1)),
-            lent::bytes_mut(out, length(m, lent::LABELS + 2)),
-        ),
+// A refusal and its offset; and N and the numbers of starts, safe states and moves, 0 where the file is refused.
+fn reading(rt: &impl Print, reading: Result<Reading, Fault>) -> io::Result<()> {
+    match reading {
+        Ok(Reading { model, moves }) => {
+            let size = model.size;
+            let starts = model.starts.count();
+            let safe = model.safe.count();
+            println!(rt; " model {size} {starts} {safe} {moves}")
+        }
+        Err(Fault { refusal, offset }) => {
+            print::refused(rt, refusal)?;
+            println!(rt; " at {offset} model 0 0 0 0")
+        }
+    }
+}
+
+// Reads a file into buffers of 7s, and prints the reading and, but for buffers of a wrong length, what they hold.
+pub fn read(rt: &impl Print, lent: &Lent) -> io::Result<()> {
+    let mut buffers = Buffers::SEVENS;
+    let file = first(&lent.bytes, lent.words.length(Lending::Bytes));
+    let answer = buffers.read(&lent.words, file);
+    reading(rt, answer)?;
+    match answer {
+        Err(fault) if fault.refusal == Refusal::WrongLength => Ok(()),
+        _ => buffers.show(rt),
+    }
+}
+
+fn written(rt: &impl Print, answer: Result<usize, Refusal>) -> io::Result<()> {
+    match answer {
+        Ok(length) => print!(rt; " length {length}"),
+        Err(refusal) => print::refused(rt, refusal),
+    }
+}
+
+// Reads a file into buffers of 7s, and writes the table back to an output of the file's length. A refused file has an empty model.
+pub fn back(rt: &impl Print, lent: &Lent) -> io::Result<()> {
+    let mut buffers = Buffers::SEVENS;
+    let file = first(&lent.bytes, lent.words.length(Lending::Bytes));
+    let none = Model {
+        size: 0,
+        starts: StateSet::EMPTY,
+        safe: StateSet::EMPTY,
+    };
+    let model = match buffers.read(&lent.words, file) {
+        Ok(reading) => reading.model,
+        Err(_) => none,
+    };
+    let mut buffer = [7; 18184];
+    let out = first_mut(&mut buffer, file.len());
+    let control = buffers.control(&lent.words, model);
+    written(rt, tables::write(&control, out))?;
+    print!(rt;
+        "\n  {} bytes",
+        if *out == *file { "the same" } else { "other" }
     )
 }
 
-pub fn step(
-    rt: &impl Print,
-    m: &[u64],
-    angles: &[i16],
-    modes: &[u8],
-    bytes: &mut [u8],
-) -> io::Result<()> {
-    let c = at(m, 0);
-    match c {
-        names::READ | names::BACK => read(
-            rt,
-            m,
-            c,
-            lent::bytes(bytes, length(m, lent::LABELS + 2)),
-        ),
-        names::WRITE => write(rt, m, angles, modes, bytes),
-        names::BYTE => mode(rt, bytes, length(m, 1)),
-        _ => Ok(()),
+// Writes the script's table.
+pub fn write(rt: &impl Print, lent: &mut Lent) -> io::Result<()> {
+    let words = &lent.words;
+    let control = words.control(&lent.angles, &lent.modes);
+    let out = first_mut(&mut lent.bytes, words.length(Lending::Bytes));
+    written(rt, tables::write(&control, out))
+}
+
+// The byte at a place.
+pub fn byte(rt: &impl Print, lent: &Lent) -> io::Result<()> {
+    match lent.bytes.get(lent.words.count(1)) {
+        Some(byte) => print!(rt; " {byte}"),
+        None => Ok(()),
     }
 }

@@ -1,103 +1,78 @@
 // Tries the calls on good and bad input. The cases are the lines of the file `stdin` beside this folder, which says what
-// they mean; what document 01 says must come of them stands in the file `stdout`.
+// they mean; what must come of them stands in the file `stdout`.
 #![tactic(auto)]
 
 mod files;
 mod ground;
 mod lent;
 mod listed;
-mod names;
 mod print;
 mod script;
 mod search;
 
+use lent::{Lending, Lent, first};
+use print::{Decimal, Hex};
+use sets::StateSet;
 use std::io;
-use std::io::Read;
-
-// Takes a line: what it lends, and then the call that it asks for.
-fn step(
-    rt: &impl Print,
-    text: &[u8; 32768],
-    from: usize,
-    m: &mut [u64; 1089],
-    run: &mut [u64; 2067],
-    angles: &mut [i16; 257],
-    modes: &mut [u8; 18184],
-    bytes: &mut [u8; 18184],
-) -> io::Result<usize> {
-    let next = script::line(rt, text, from, m)?;
-    lend(m, run, angles, modes, bytes);
-    call(rt, m, run, angles, modes, bytes)?;
-    Ok(next)
-}
-
-// What a line lends.
-fn lend(
-    m: &mut [u64; 1089],
-    run: &mut [u64; 2067],
-    angles: &mut [i16; 257],
-    modes: &mut [u8; 18184],
-    bytes: &mut [u8; 18184],
-) {
-    let c = m[0];
-    let a = m[1];
-    let b = m[2];
-    lent::table(m, c, a);
-    lent::run(m, c, run);
-    lent::angled(c, a, b, angles);
-    lent::moded(c, a, b, modes);
-    lent::filed(m, c, bytes);
-}
 
 // The call that a line asks for.
-fn call(
-    rt: &impl Print,
-    m: &[u64],
-    run: &mut [u64; 2067],
-    angles: &[i16],
-    modes: &[u8],
-    bytes: &mut [u8],
-) -> io::Result<()> {
-    let old = *run;
-    ground::step(rt, m, run)?;
-    search::moves(rt, m)?;
-    search::step(rt, m, run, &old)?;
-    files::step(rt, m, angles, modes, bytes)?;
-    listed::step(rt, m, angles, modes, bytes)
-}
-
-// Reads until the buffer is full, the input ends or a read fails; what is not read stays.
-fn read_full(input: &mut impl Read, b: &mut [u8]) {
-    let mut done = 0;
-    while done < b.len() {
-        let n = input.read(&mut b[done..]).unwrap_or(0);
-        if n == 0 {
-            break;
-        }
-        done += n;
+fn call(rt: &impl Print, lent: &mut Lent) -> io::Result<()> {
+    let words = &lent.words;
+    let name = words.command();
+    let i = words.starts();
+    let p = words.safe();
+    let run = first(&lent.run, words.length(Lending::Run));
+    let shown = first(&lent.run, words.count(1));
+    match script::letters(&name) {
+        b"set" => print::set(rt, i),
+        b"meet" => print::set(rt, i.meet(p)),
+        b"join" => print::set(rt, i.join(p)),
+        b"minus" => print::set(rt, i.minus(p)),
+        b"with" => print::set(rt, i.with(words.state(1))),
+        b"without" => print::set(rt, i.without(words.state(1))),
+        b"member" => print::answer(rt, i.member(words.state(1))),
+        b"within" => print::answer(rt, i.within(p)),
+        b"full" => ground::full(rt, words.state(1)),
+        b"turn" => ground::turn(rt, words.angle(1), words.angle(2)),
+        b"at" => print::set(rt, StateSet::read(run, words.count(1))),
+        b"first" => rt.print(Decimal(shown)),
+        b"hex" => rt.print(Hex(shown)),
+        b"f" => search::moved(rt, moves::f(words.moves(), words.size(), words.set(1))),
+        b"g" => search::moved(rt, moves::g(words.moves(), words.size(), words.set(1))),
+        b"fresh" => search::fresh(rt, lent),
+        b"single" => search::single(rt, lent),
+        b"run" => search::run(rt, lent),
+        b"read" => files::read(rt, lent),
+        b"back" => files::back(rt, lent),
+        b"write" => files::write(rt, lent),
+        b"byte" => files::byte(rt, lent),
+        b"refused" => listed::refused(rt, lent),
+        b"safe" => listed::safe(rt, lent),
+        b"reached" => listed::reached(rt, lent),
+        b"show" => listed::output(rt, lent),
+        _ => Ok(()),
     }
 }
 
+// Takes a piece of the script: a line, or what follows the last one, which tells nothing.
+fn step(rt: &impl Print, piece: &[u8], lent: &mut Lent) -> io::Result<()> {
+    let line = piece.strip_suffix(b"\n");
+    lent.words.take(line.unwrap_or(piece));
+    if let Some(line) = line {
+        let command = lent.words.command();
+        script::tell(rt, script::letters(&command), line)?;
+    }
+    lent.lend();
+    call(rt, lent)
+}
+
 fn main(rt: HostRuntime) -> io::Result<()> {
-    let mut text = [0u8; 32768];
-    read_full(&mut rt.stdin(), &mut text);
-    let mut m = [0u64; 1089];
-    let mut run = [0u64; 2067];
-    let mut angles = [0i16; 257];
-    let mut modes = [0u8; 18184];
-    let mut bytes = [0u8; 18184];
-    let mut from: usize = 0;
-    for i in 0..2000u64 {
-        from = step(
-            &rt,
-            &text,
-            from,
-            &mut m,
-            &mut run,
-            &mut angles,
-            &mut modes,
-            &mut bytes,
-        )?;
+    // a read that fails is the end of the script
+    let mut text = [0; 32768];
+    let _ = inputs::read_full(&mut rt.stdin(), &mut text);
+    let mut lent = Lent::NOTHING;
+    for piece in text.split_inclusive(|b| *b == b'\n').take(2000) {
+        step(&rt, piece, &mut lent)?;
     }
     Ok(())
 }

@@ -1,115 +1,93 @@
 // The script, line by line: a command, then numbers with one space before each. Numbers are decimal and may have a
 // minus sign; those of `file` are hexadecimal. What follows `say ` is text, an empty line ends a line of output, and a
-// line with another command than those of `names` does nothing.
-use crate::{names, print};
+// line with another command than those of `main` and `lent` does nothing.
+use crate::lent::Words;
 use sets::StateSet;
 use std::io;
 
-// Takes the line at a place into the first words: the command and its numbers, followed by zeros. Answers where the next
-// line starts.
-pub fn line(
-    rt: &impl Print,
-    text: &[u8; 32768],
-    from: usize,
-    m: &mut [u64; 1089],
-) -> io::Result<usize> {
-    let mut k = 0;
-    m[0] = 0;
-    for i in from..32768 {
-        let b = byte(text, i);
-        if b == b'\n' {
-            tell(rt, text, m[0], from, i)?;
-            return Ok(i + 1);
+// A command's letters, without the zeros before them.
+pub fn letters(command: &[u8; 8]) -> &[u8] {
+    let zeros = command.iter().position(|b| *b != 0).unwrap_or(8);
+    command.get(zeros..).unwrap_or(&[])
+}
+
+impl Words {
+    // The last eight bytes of the command.
+    pub fn command(&self) -> [u8; 8] {
+        self.all[0].to_be_bytes()
+    }
+
+    // Takes a line into the first words: the command and its numbers, of which the last is followed by zeros.
+    pub fn take(&mut self, line: &[u8]) {
+        let mut fields = line.split(|b| *b == b' ');
+        let name = fields.next().unwrap_or(&[]);
+        self.all[0] = name.iter().fold(0, |w, b| (w << 8) | u64::from(*b));
+        let command = self.command();
+        for (place, field) in (1..36).zip(fields) {
+            StateSet::EMPTY.write(&mut self.all, place);
+            if let Some(number) = self.all[..35].get_mut(place) {
+                *number = parsed(letters(&command), field);
+            }
         }
-        k = taken(m, k, b);
     }
-    Ok(32768)
 }
 
-// The byte of the text at a place.
-fn byte(text: &[u8; 32768], at: usize) -> u8 {
-    if at < 32768 { text[at] } else { 0 }
+// A number of a command.
+fn parsed(command: &[u8], field: &[u8]) -> u64 {
+    match command {
+        b"file" => field.iter().fold(0, |n, b| (n << 4) | value(*b)),
+        _ => field.iter().fold(0, |n, b| grown(n, *b)),
+    }
 }
 
-// Takes a byte of a line, of whose numbers the last stands at a place; answers where it stands then.
-fn taken(m: &mut [u64; 1089], k: usize, b: u8) -> usize {
-    if k < 35 {
-        if b == b' ' {
-            let none = StateSet::EMPTY;
-            none.write(m, k + 1);
-            return k + 1;
-        }
-        m[k] = grown(m[k], b, k, m[0]);
-    }
-    k
-}
-
-// A number after one more byte, at a place of a line with a command.
-fn grown(n: u64, b: u8, k: usize, command: u64) -> u64 {
-    if k == 0 {
-        return (n << 8) | (b as u64);
-    }
-    if command == names::FILE {
-        return (n << 4) | value(b);
-    }
+// A number after one more byte. A number with a minus sign is the complement of the one without.
+fn grown(n: u64, b: u8) -> u64 {
     if b == b'-' {
-        return !0;
-    }
-    if n < 0x8000_0000_0000_0000 {
+        !0
+    } else if n < 1 << 63 {
         tens(n, value(b))
     } else {
         !tens(!n, value(b))
     }
 }
 
-fn tens(n: u64, d: u64) -> u64 {
-    (n << 3).wrapping_add(n << 1).wrapping_add(d)
+fn tens(n: u64, digit: u64) -> u64 {
+    n.wrapping_mul(10).wrapping_add(digit)
 }
 
 // The value of a digit.
 fn value(b: u8) -> u64 {
-    let w = b as u64;
-    if w < 48 {
-        return 0;
+    match b {
+        ..b'0' => 0,
+        b'0'..b'a' => u64::from(b - b'0'),
+        b'a'.. => u64::from(b - b'a') + 10,
     }
-    if w < 97 { w - 48 } else { w - 87 }
 }
 
-// What a line from a place to a place has printed by itself: a text, or an end.
-fn tell(rt: &impl Print, text: &[u8], command: u64, from: usize, end: usize) -> io::Result<()> {
-    if command == 0 {
-        print::say(rt, names::END)?;
+// What a line prints by itself: a text, or an end.
+pub fn tell(rt: &impl Print, command: &[u8], line: &[u8]) -> io::Result<()> {
+    match command {
+        b"" => println!(rt),
+        b"say" => rt.write_all(line.get(4..).unwrap_or(&[])),
+        _ => Ok(()),
     }
-    if command == names::SAY {
-        if end <= text.len() {
-            if 4 <= end {
-                if from <= end - 4 {
-                    rt.write_all(&text[from + 4..end])?;
-                }
-            }
-        }
-    }
-    Ok(())
 }
 
 // A number as a state or a size.
 pub fn small(w: u64) -> u16 {
-    if w < 65536 { w as u16 } else { 65535 }
+    u16::try_from(w).unwrap_or(u16::MAX)
 }
 
 // A number as a byte.
 pub fn low(w: u64) -> u8 {
-    if w < 256 { w as u8 } else { 255 }
+    u8::try_from(w).unwrap_or(u8::MAX)
 }
 
-// A number as an angle.
+// A number as an angle, 0 if it is none.
 pub fn signed(w: u64) -> i16 {
-    if w < 32768 {
-        return w as i16;
+    if let Ok(angle) = i16::try_from(w) {
+        return angle;
     }
-    let m = !w;
-    if m == 0 {
-        return 0;
-    }
-    if m <= 32768 { !((m - 1) as i16) } else { 0 }
+    let size = i64::try_from(!w).unwrap_or(0);
+    i16::try_from(size.wrapping_neg()).unwrap_or(0)
 }

@@ -5,11 +5,12 @@ use mathlib.Core.Bool.{Bool, true, and-eq-true_iff}
 use lib.IntN.{ℤ, pos, negsuc}
 use lib.Signed.{le_z}
 use Rattle.answers.specs.Answer.{refused, given}
+use Rattle.answers.proofs.Said.{said_once}
 use Rattle.answers.proofs.Unique.{only}
-use Rattle.turns.specs.declared.Turned.{Turned}
-use Rattle.turns.specs.declared.Turned.TheVariants.{By, Refused}
 use Rattle.turns.specs.Turn.{is_angle, candidates, is_short, half_turn, first_that, between, turn_of}
-use Rattle.turns.specs.Said.{said}
+use Rattle.std.specs.Prelude.{Result}
+use Rattle.answers.specs.Said.{said}
+use Rattle.answers.specs.declared.Refusal.{Refusal}
 use Rattle.turns.proofs.Ints.{Bounds, le_yes, yes_le}
 
 -- the rows of document 01, with the half turn of document 02 there and back, and numbers that are no angle
@@ -35,16 +36,9 @@ pub angle : (z : ℤ) → Bounds 360 z → is_angle z ≡ true
 unfolding is_angle
 angle z w = (and-eq-true_iff _ _).1 (yes_le (negsuc 179) z (omega arith), yes_le z (pos 179) (omega arith))
 
--- two answers that say the same are equal
-said-one : (r r' : Turned) → said r ≡ said r' → r ≡ r'
-said-one (By d) (By d') e = cc
-said-one (By d) (Refused n') e = cc
-said-one (Refused n) (By d') e = cc
-said-one (Refused n) (Refused n') e = cc
-
 -- the promise of `turn` allows one answer
-pub turn_once : (a b : ℤ) (r r' : Turned) → said r ≡ turn_of a b → said r' ≡ turn_of a b → r ≡ r'
-turn_once a b r r' p q = said-one r r' (only p q)
+pub turn_once : (a b : ℤ) (r r' : Result ℤ Refusal) → said r ≡ turn_of a b → said r' ≡ turn_of a b → r ≡ r'
+turn_once a b r r' p q = said_once r r' (only p q)
 
 -- and so does the promise of `is_angle`
 pub angle-once : (a : ℤ) {r r' : Bool} → r ≡ is_angle a → r' ≡ is_angle a → r ≡ r'

@@ -3,16 +3,11 @@
 // difference of two, a full turn more and a full turn less.
 #![tactic(auto)]
 
-ghost use Rattle.std.specs.Prelude.{◌≡◌};
-ghost use Rattle.turns.specs.Turn.{is_angle, is_short, half_turn, turn_of};
-ghost use Rattle.turns.specs.Said.{said};
+ghost use Rattle.std.specs.Prelude.{◌≡◌, true};
+ghost use Rattle.turns.specs.Turn.{is_angle, is_short, half_turn, between, turn_of};
+ghost use Rattle.answers.specs.Said.{said};
 
-// The turn, or a refusal with its number.
-#[derive(Clone, Copy)]
-pub enum Turned {
-    By(i16),
-    Refused(u8),
-}
+use answers::Refusal;
 
 // Whether a lies in -180 to 179.
 pub fn is_angle(a: i16) -> bool
@@ -37,25 +32,34 @@ fn half_turn(a: i16) -> i16
     if 0 <= a { 180 } else { -180 }
 }
 
-// The turn from angle a to angle b: the one of b - a, b - a + 360 and b - a - 360 that is less than a
-// half turn, or else the half turn.
-pub fn turn(a: i16, b: i16) -> Turned
-    ensures { said result ≡ turn_of a b }
+// The turn between two angles: the one of b - a, b - a + 360 and b - a - 360 that is less than a half turn, or
+// else the half turn.
+fn between(a: i16, b: i16) -> i16
+    requires from { is_angle a ≡ true }
+    requires to { is_angle b ≡ true }
+    ensures { result ≡ between 360 a b }
 {
-    if !is_angle(a) || !is_angle(b) {
-        return Turned::Refused(answers::BAD_LABEL);
-    }
     let d = b - a;
     if is_short(d) {
-        return Turned::By(d);
+        return d;
     }
     let more = d + 360;
     if is_short(more) {
-        return Turned::By(more);
+        return more;
     }
     let less = d - 360;
     if is_short(less) {
-        return Turned::By(less);
+        return less;
     }
-    Turned::By(half_turn(a))
+    half_turn(a)
+}
+
+// The turn from angle a to angle b; refused where one of them is none.
+pub fn turn(a: i16, b: i16) -> Result<i16, Refusal>
+    ensures { said result ≡ turn_of a b }
+{
+    if !is_angle(a) || !is_angle(b) {
+        return Err(Refusal::BadLabel);
+    }
+    Ok(between(a, b))
 }

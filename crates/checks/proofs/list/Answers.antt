@@ -12,5 +12,5 @@ returns-in-Reached c = search (reached_lists, rules)
 pub returns-in-Unfinished : goal.returns-in-Unfinished
 returns-in-Unfinished c = search (unfinished_lists, rules)
 
-pub returns-in-Refused : goal.returns-in-Refused
-returns-in-Refused c = search (refused_lists, rules)
+pub returns-in-Err : goal.returns-in-Err
+returns-in-Err c = search (refused_lists, rules)

@@ -1,17 +1,11 @@
--- `agree` meets its contract: every row before t is that of the second table made.
+-- `agree` meets its contract: there is one table that agrees, the one made.
 use borrow.Author.Rules.{rules}
-use Rattle.rules.proofs.Loops.{all-begins, all-goes, all-fails, all-ends}
-use Rattle.edits.proofs.Turning.{rows_agree}
+use Rattle.edits.proofs.Lent.{lent-big, lent-sound, lent-long}
+use Rattle.edits.proofs.Turning.{tables_agree}
 use Rattle.edits.proofs.agree.Goals as goal
 
-pub loop-t-init : goal.loop-t-init
-loop-t-init c = search (all-begins, rules)
-
-pub returns-then-not-same_row : goal.returns-then-not-same_row
-returns-then-not-same_row c = search (rows_agree, all-fails, rules)
-
-pub loop-t-preserved : goal.loop-t-preserved
-loop-t-preserved c = search (all-goes, rules)
+pub second_of-requires : goal.second_of-requires
+second_of-requires c = record { size_bound = search (lent-big, rules); moves_value = search (lent-sound, rules) }
 
 pub returns : goal.returns
-returns c = search (rows_agree, all-ends, rules)
+returns c = search (tables_agree, lent-long, rules)

@@ -5,4 +5,4 @@ use Rattle.lampferret.proofs.Giving.{given-of}
 use Rattle.lampferret.proofs.lampferret_f.Goals as goal
 
 pub returns : goal.returns
-returns c = given-of (move_refusal _ _) (forward _ _) c.set_of.ensures c.f-a.ensures c.give_set.ensures
+returns c = given-of (move_refusal _ _) (forward _ _) c.set_of.ensures c.f.ensures c.give_set.ensures

@@ -5,4 +5,4 @@ use Rattle.lampferret.proofs.Giving.{given-of}
 use Rattle.lampferret.proofs.lampferret_g.Goals as goal
 
 pub returns : goal.returns
-returns c = given-of (move_refusal _ _) (backward _ _) c.set_of.ensures c.g-a.ensures c.give_set.ensures
+returns c = given-of (move_refusal _ _) (backward _ _) c.set_of.ensures c.g.ensures c.give_set.ensures

@@ -5,6 +5,4 @@ use Rattle.lampferret.proofs.Giving.{given-of}
 use Rattle.lampferret.proofs.lampferret_g_by_second.Goals as goal
 
 pub returns : goal.returns
-returns c =
-    let answered = c.before.before in
-    given-of (g_refusal _ _ _) (backward _ _) answered.set_of.ensures answered.g_by_second-a.ensures c.give_set.ensures
+returns c = given-of (g_refusal _ _ _) (backward _ _) c.set_of.ensures c.g_by_second.ensures c.give_set.ensures

@@ -3,4 +3,4 @@ use Rattle.lampferret.proofs.Giving.{set_given}
 use Rattle.lampferret.proofs.lampferret_into.Goals as goal
 
 pub returns : goal.returns
-returns c = set_given c.into-a.ensures c.give_set.ensures
+returns c = set_given c.into.ensures c.give_set.ensures

@@ -1,28 +1,29 @@
 -- `lampferret_read` meets its contract: what `read` promises, and where each part of its answer is put.
 use mathlib.Core.Path.{refl}
-use Rattle.lampferret.proofs.Giving.{kept-old, kept_new}
+use borrow.Author.Rules.{rules}
+use Rattle.std.specs.Prelude.{Ok, Err}
 use Rattle.lampferret.proofs.lampferret_read.Goals as goal
 
-pub returns-then-refusal-eq-NO_REFUSAL : goal.returns-then-refusal-eq-NO_REFUSAL
-returns-then-refusal-eq-NO_REFUSAL c =
+pub returns-in-Ok : goal.returns-in-Ok
+returns-in-Ok c =
     record {
-      reading = c.read-a.result;
-      promised = c.read-a.ensures;
+      reading = Ok c.in-Ok.reading;
+      promised = search rules;
       answer = refl;
-      starts_are = c.give_set.ensures;
-      safe_are = c.give_set-2.ensures;
-      counts_are = kept_new _ _ _ c.if-refusal-eq-NO_REFUSAL.true;
+      starts_are = c.words_of-start_words.ensures;
+      safe_are = c.words_of-safe_words.ensures;
+      counts_are = refl;
       offset_is = refl;
     }
 
-pub returns-else-refusal-eq-NO_REFUSAL : goal.returns-else-refusal-eq-NO_REFUSAL
-returns-else-refusal-eq-NO_REFUSAL c =
+pub returns-in-Err : goal.returns-in-Err
+returns-in-Err c =
     record {
-      reading = c.read-a.result;
-      promised = c.read-a.ensures;
-      answer = refl;
-      starts_are = c.give_set.ensures;
-      safe_are = c.give_set-2.ensures;
-      counts_are = kept-old _ _ _ c.if-refusal-eq-NO_REFUSAL.false;
+      reading = Err c.in-Err.fault;
+      promised = search rules;
+      answer = c.from.ensures;
+      starts_are = refl;
+      safe_are = refl;
+      counts_are = refl;
       offset_is = refl;
     }

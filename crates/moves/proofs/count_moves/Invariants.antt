@@ -1,10 +1,6 @@
 -- `count_moves` meets its contract: the sum over the rows so far, at most 256 each.
-use Prim.Native.Nat.{◌-◌}
 use Rattle.moves.proofs.Rows.{Counting}
 use Rattle.moves.proofs.count_moves.Given as goal
 
 abbrev pub invariant-loop-s : goal.invariant-loop-s
 invariant-loop-s l = Counting l.moves l.total l.s
-
-abbrev pub decreases-loop-s : goal.decreases-loop-s
-decreases-loop-s l = 256 - l.s

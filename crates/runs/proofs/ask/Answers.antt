@@ -1,15 +1,15 @@
 -- `ask` meets its contract: the run has concluded, there is no room, the proposal will not do, or the rule is fired.
 use borrow.Author.Rules.{rules}
+use Rattle.moves.specs.Models.{as_table}
 use Rattle.runs.proofs.Answers.{ask_concluded, ask_full, ask_no, ask_fires, fireable_now}
 use Rattle.runs.proofs.Closing.{looks_all}
-use Rattle.runs.proofs.Memo.{remembers_none}
 use Rattle.runs.proofs.ask.Goals as goal
 
 pub conclusion-standing-requires : goal.conclusion-standing-requires
 conclusion-standing-requires c = search (looks_all, rules)
 
-pub due-d-requires : goal.due-d-requires
-due-d-requires c = search (remembers_none, rules)
+pub due-due-requires : goal.due-due-requires
+due-due-requires c = (c.requires, c.new-memo.ensures (as_table c.args.table.now))
 
 pub returns-then-not-is_open : goal.returns-then-not-is_open
 returns-then-not-is_open c = search (ask_concluded, rules)
@@ -22,15 +22,7 @@ returns-then-not-takes c = search (ask_no, rules)
 
 -- the run is open, and the rule due is known
 pub fire-requires : goal.fire-requires
-fire-requires c =
-    search (
-      fireable_now,
-      c.requires,
-      c.conclusion-standing.ensures,
-      c.is_open.ensures,
-      c.if-not-is_open.false-raw,
-      c.due-d.ensures.due,
-    )
+fire-requires c = search (fireable_now, rules)
 
 pub returns : goal.returns
 returns c = search (ask_fires, rules)

@@ -6,5 +6,5 @@ use Rattle.runs.proofs.takes.Goals as goal
 pub returns-then-not-asks : goal.returns-then-not-asks
 returns-then-not-asks c = search (takes-any, rules)
 
-pub returns : goal.returns
-returns c = search (takes-is, rules)
+pub returns-else-not-asks : goal.returns-else-not-asks
+returns-else-not-asks c = search (takes-is, rules)

@@ -1,4 +1,4 @@
--- `filled` meets its contract: each part is filled from where its section begins.
+-- `filled` meets its contract: the parts of the file fill the parts of the table.
 use borrow.Author.Rules.{rules}
 use Rattle.tables.proofs.Files.{read-filled}
 use Rattle.tables.proofs.filled.Goals as goal

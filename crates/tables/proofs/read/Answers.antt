@@ -6,8 +6,8 @@ use Rattle.tables.proofs.read.Goals as goal
 pub returns-then-not-sized : goal.returns-then-not-sized
 returns-then-not-sized c = search (read-unsized, rules)
 
-pub returns-in_default : goal.returns-in_default
-returns-in_default c = search (read-stopped, rules)
+pub returns-in_err-counts : goal.returns-in_err-counts
+returns-in_err-counts c = read-stopped _ _ _ _ _ c.sized.ensures c.if-not-sized.false _ c.count.ensures _ c.in_err-counts.was _ c.from_residual.ensures.1
 
 pub filled-requires : goal.filled-requires
-filled-requires c = search (fillable, rules)
+filled-requires c = fillable _ _ _ _ _ c.sized.ensures c.if-not-sized.false _ c.count.ensures _ c.in_ok-counts.was

@@ -1,13 +1,16 @@
 -- `write` meets its contract: refused, or the file put at the front of an output that has room for it.
 use borrow.Author.Rules.{rules}
-use Rattle.tables.proofs.Writing.{wrote_refused, file_room, wrote_file}
+use mathlib.Core.Path.{sym, ◌∙◌}
+use Rattle.tables.proofs.Writing.{wrote_refused, wrote_file}
 use Rattle.tables.proofs.write.Goals as goal
 
-pub returns-then-k-ne-NO_REFUSAL : goal.returns-then-k-ne-NO_REFUSAL
-returns-then-k-ne-NO_REFUSAL c = search (wrote_refused, rules)
-
-pub put_file-length-requires : goal.put_file-length-requires
-put_file-length-requires c = search (file_room, rules)
+pub returns-in_err-test : goal.returns-in_err-test
+returns-in_err-test c = wrote_refused _ _ _ c.test.ensures _ c.in_err-test.was _ c.from_residual.ensures.1
 
 pub returns : goal.returns
-returns c = search (wrote_file, rules)
+returns c =
+    let new = c.new-output.ensures in
+    let put = c.put_file.ensures in
+    let same = sym (put.same_reference ∙ new.same_reference) in
+    wrote_file _ _ _ c.test.ensures c.in_ok-test.was (search rules) (record { output = new.output; place = new.place }) put _ c.place.ensures _
+    (search (same, rules))

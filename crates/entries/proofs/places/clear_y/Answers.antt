@@ -1,16 +1,8 @@
--- `clear_y` meets its contract. The loop tests every place of a y.
-use borrow.Author.Rules.{rules}
-use Rattle.rules.proofs.Loops.{all-begins, all-goes, all-fails, all-ends}
+-- `clear_y` meets its contract: every place of a y is tested.
+use Rattle.std.proofs.Common.{rules}
+use borrow.Author.Tests.{tests}
+use Rattle.sets.proofs.AllIn.{all_below}
 use Rattle.entries.proofs.places.clear_y.Goals as goal
 
-pub loop-j-init : goal.loop-j-init
-loop-j-init c = search (all-begins, rules)
-
-pub returns-then-not-clear_y_at : goal.returns-then-not-clear_y_at
-returns-then-not-clear_y_at c = search (all-fails, rules)
-
-pub loop-j-preserved : goal.loop-j-preserved
-loop-j-preserved c = search (all-goes, rules)
-
 pub returns : goal.returns
-returns c = search (all-ends, rules)
+returns c = all_below _ _ _ (search rules) c.all.ensures.ran (λ x b q k. search (rules, tests))

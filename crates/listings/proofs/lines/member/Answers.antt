@@ -1,10 +1,13 @@
 -- `member` meets its contract: the first member has no space before it.
 use borrow.Author.Rules.{rules}
-use Rattle.listings.proofs.Text.{first_put, other_put}
+use Rattle.listings.specs.Inner.{gap}
+use Rattle.listings.proofs.Text.{decimal-is}
 use Rattle.listings.proofs.lines.member.Goals as goal
-
-pub returns-then-first : goal.returns-then-first
-returns-then-first c = search (first_put, rules)
+use Rattle.listings.proofs.lines.member.Goals.{then-first, else-first}
 
 pub returns : goal.returns
-returns c = search (other_put, rules)
+unfolding gap
+returns c = elim c.if-first.branch [
+  | then-first w ↦ rw w.if-first.true (rw (w.space-is, decimal-is c.args.s (search rules)) at c.number.ensures)
+  | else-first w ↦ rw w.if-first.false (rw (w.space-is, decimal-is c.args.s (search rules)) at c.number.ensures)
+]

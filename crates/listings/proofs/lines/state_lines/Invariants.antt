@@ -1,14 +1,8 @@
--- `state_lines` meets its contract. The invariant: the lines of the first i states are put.
-use Prim.Native.Nat.{◌-◌}
-use lib.ListN.{length}
+-- `state_lines` meets its contract. The invariant: the lines of the first i states are appended.
 use Rattle.listings.specs.Text.{appended}
 use Rattle.listings.specs.Listing.{state_line}
-use Rattle.listings.proofs.Puts.{Putting}
+use Rattle.outputs.specs.Appends.{Appends}
 use Rattle.listings.proofs.lines.state_lines.Given as goal
 
 abbrev pub invariant-loop-i : goal.invariant-loop-i
-invariant-loop-i l =
-    Putting (length l.walk) (λ k. appended k (state_line l.walk l.angles l.modes)) l.initial.out l.at l.out l.next l.i
-
-abbrev pub decreases-loop-i : goal.decreases-loop-i
-decreases-loop-i l = length l.walk - l.i
+invariant-loop-i l = Appends l.initial.out (appended l.i (state_line l.walk l.control.angles.now l.control.modes.now)) l.out

@@ -4,7 +4,7 @@ use Rattle.runs.proofs.Tested.{Looking}
 use Rattle.runs.proofs.firing.conclusion.Given as goal
 
 abbrev pub invariant-loop-j : goal.invariant-loop-j
-invariant-loop-j l = Looking l.buf l.to l.x.words l.j
+invariant-loop-j l = Looking l.buf l.j-end l.x.words l.j
 
 abbrev pub decreases-loop-j : goal.decreases-loop-j
-decreases-loop-j l = l.to - l.j
+decreases-loop-j l = l.j-end - l.j

@@ -10,7 +10,7 @@ loop-j-init c = search (cut-begins, rules)
 pub loop-j-preserved : goal.loop-j-preserved
 loop-j-preserved c =
     cut-goes _ c.requires.0 _ _ _ _ _ _ _ c.loop-j.invariant (search rules) (omega (arith, c.requires.1))
-    c.read-x.ensures c.meet.ensures c.write.ensures
+    c.x-x.ensures c.meet.ensures c.write_x.ensures
 
 pub returns : goal.returns
 returns c = search (cut-ends, rules)

@@ -21,10 +21,7 @@ pub returns-in-Unfold : goal.returns-in-Unfold
 returns-in-Unfold c = search (will_unfold, rules)
 
 pub returns-in-Candidate : goal.returns-in-Candidate
-returns-in-Candidate c = search (will_candidate, rules)
-
-pub returns-in-Decide : goal.returns-in-Decide
-returns-in-Decide c = search (will_decide, rules)
+returns-in-Candidate c = search (will_candidate, will_decide, rules)
 
 pub returns-in-Conflict : goal.returns-in-Conflict
 returns-in-Conflict c = search (will_conflict, rules)

@@ -2,12 +2,14 @@
 use borrow.Author.Rules.{rules}
 use Rattle.runs.proofs.Choices.{chose_calm, chose_dry, chose_hint, chose_house}
 use Rattle.runs.proofs.search.choose.Goals as goal
+use Rattle.runs.proofs.search.choose.Goals.{then-not-asks-via-then-not-asks, then-not-asks-via-else-not-asks+then-hints-at}
 
 pub returns-then-not-asks : goal.returns-then-not-asks
-returns-then-not-asks c = search (chose_calm, rules)
-
-pub returns-then-hints-at : goal.returns-then-hints-at
-returns-then-hints-at c = search (chose_dry, rules)
+returns-then-not-asks c =
+    elim c.then-not-asks.branch [
+      | then-not-asks-via-then-not-asks w ↦ search (chose_calm, rules)
+      | then-not-asks-via-else-not-asks+then-hints-at w ↦ search (chose_dry, rules)
+    ]
 
 pub returns-then-will_do : goal.returns-then-will_do
 returns-then-will_do c = search (chose_hint, rules)

@@ -1,12 +1,10 @@
 -- `lacks_room` meets its contract: the definition's two tests.
-use mathlib.Core.Path.{sym, ◌∙◌}
-use Rattle.rules.specs.Runs.{lacks_room_for}
+use borrow.Author.Rules.{rules}
+use Rattle.runs.proofs.Enums.{room-no, room-is}
 use Rattle.runs.proofs.search.lacks_room.Goals as goal
 
-pub returns-then-asks : goal.returns-then-asks
-unfolding lacks_room_for
-returns-then-asks c = rw (sym c.asks.ensures ∙ c.if-asks.true)
+pub returns-then-not-asks : goal.returns-then-not-asks
+returns-then-not-asks c = search (room-is, rules)
 
-pub returns : goal.returns
-unfolding lacks_room_for
-returns c = rw (sym c.asks.ensures ∙ c.if-asks.false)
+pub returns-else-not-asks : goal.returns-else-not-asks
+returns-else-not-asks c = search (room-no, rules)

@@ -1,10 +1,7 @@
--- `first_outside` meets its contract: the two answers of `smallest`.
+-- `first_outside` meets its contract: what `smallest` found, or 0.
 use borrow.Author.Rules.{rules}
-use Rattle.runs.proofs.Walks.{first_member, first_nothing}
+use Rattle.runs.proofs.Walks.{outside_by}
 use Rattle.runs.proofs.walk.first_outside.Goals as goal
 
-pub returns-in-Member : goal.returns-in-Member
-returns-in-Member c = search (first_member, rules)
-
-pub returns-in-Nothing : goal.returns-in-Nothing
-returns-in-Nothing c = search (first_nothing, rules)
+pub returns : goal.returns
+returns c = search (outside_by, rules)

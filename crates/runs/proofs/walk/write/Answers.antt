@@ -13,7 +13,7 @@ pub loop-j-preserved : goal.loop-j-preserved
 loop-j-preserved c =
     elim c.if-j-m.branch [
       | then-j-m w ↦ walk_on _ _ _ _ _ _ _ _ c.loop-j.invariant c.loop-j-test.true _ _ _ _ w.at-is c.requires.2 refl w.if-j-m.true
-          w.read-then-j-m.ensures w.read-y.ensures w.first_outside-at-then-j-m.ensures
+          w.read-row.ensures w.y-then-j-m.ensures w.first_outside-at-then-j-m.ensures
       | else-j-m w ↦ search (walk_last, rules)
     ]
 

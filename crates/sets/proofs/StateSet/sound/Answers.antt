@@ -1,9 +1,8 @@
--- `sound` meets its contract: no member from N up is to be within the full set of N states; from 256 up nothing is asked.
+-- `sound` meets its contract: no member from N up is to be within the set of the states below N; from 256 up nothing is asked.
 use mathlib.Core.Path.{◌∙◌}
 use native.Mathlib.Omega.{arith}
-use Rattle.sets.proofs.Range.{full-set}
 use Rattle.sets.proofs.Within.{sound-full}
 use Rattle.sets.proofs.StateSet.sound.Goals as goal
 
 pub returns : goal.returns
-returns c = c.within.ensures ∙ rw (full-set _ _ c.full-r.ensures (omega arith)) (sound-full _ (omega arith) _)
+returns c = c.within.ensures ∙ rw c.below.ensures (sound-full _ (omega arith) _)

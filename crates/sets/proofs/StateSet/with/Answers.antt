@@ -7,9 +7,8 @@ use Rattle.sets.proofs.StateSet.with.Goals as goal
 
 pub returns-then-s-lt256 : goal.returns-then-s-lt256
 returns-then-s-lt256 c =
-    let start = c.before.before in
-    rw (one_shl (start.args.s % 64) (omega arith))
-    (with-words start.args.self.words start.args.s (proper_words _ (search rules) (λ j. search rules)) (search rules))
+    rw (one_shl (c.args.s % 64) (omega arith))
+    (with-words c.args.self.words c.args.s (proper_words _ (search rules) (λ j. search rules)) (search rules))
 
 pub returns-else-s-lt256 : goal.returns-else-s-lt256
 returns-else-s-lt256 c = with_nothing c.args.self.words c.args.s (proper_words _ (search rules) (λ j. search rules)) (search rules)

@@ -4,6 +4,7 @@ use native.Mathlib.Omega.{arith}
 use lib.ListN.{length-set}
 use Rattle.sets.proofs.Words.{sets_four, write_begins, write_off, write_out, write_goes, write_ends}
 use Rattle.sets.proofs.StateSet.write.Goals as goal
+use Rattle.sets.proofs.StateSet.write.Goals.{then-b-at-via-then-b-at, then-b-at-via-else-b-at+then-b-at-2}
 
 pub bounds-b-at-then-at-b : goal.bounds-b-at-then-at-b
 bounds-b-at-then-at-b c = simp length-set (omega arith)
@@ -24,10 +25,11 @@ pub loop-k-init : goal.loop-k-init
 loop-k-init c = search (write_begins, rules)
 
 pub returns-then-b-at : goal.returns-then-b-at
-returns-then-b-at c = search (write_off, rules)
-
-pub returns-then-b-at-2 : goal.returns-then-b-at-2
-returns-then-b-at-2 c = search (write_out, rules)
+returns-then-b-at c =
+    elim c.then-b-at.branch [
+      | then-b-at-via-then-b-at w ↦ search (write_off, rules)
+      | then-b-at-via-else-b-at+then-b-at-2 w ↦ search (write_out, rules)
+    ]
 
 pub loop-k-preserved : goal.loop-k-preserved
 loop-k-preserved c = search (write_goes, rules)

@@ -1,10 +1,6 @@
 -- `write` meets its contract: four stores where they fit, else word by word as far as the list goes.
-use Prim.Native.Nat.{◌-◌}
 use Rattle.sets.proofs.Words.{Writing}
 use Rattle.sets.proofs.StateSet.write.Given as goal
 
 abbrev pub invariant-loop-k : goal.invariant-loop-k
 invariant-loop-k l = Writing l.initial.b l.at l.self.words l.b l.k
-
-abbrev pub decreases-loop-k : goal.decreases-loop-k
-decreases-loop-k l = 4 - l.k

@@ -1,18 +1,26 @@
 -- `fill::fill_angles` meets its contract: the places so far are filled.
 use borrow.Author.Rules.{rules}
+use native.Mathlib.Omega.{arith}
+use mathlib.Core.Path.{◌∙◌}
+use mir.Syntax.{w16}
+use mir.ValLaws.{to_z-of_z}
 use Rattle.tables.specs.Control.{angles_of_entries}
-use Rattle.tables.proofs.Filling.{fill_begins, fill_place, angle-goes, fill_ends}
+use Rattle.tables.proofs.Filling.{fill_begins, fill_goes, fill_ends, angle_in, angle-out}
 use Rattle.tables.proofs.fill.fill_angles.Goals as goal
+use Rattle.tables.proofs.fill.fill_angles.Goals.{then-i-size, else-i-size}
 
 pub loop-i-init : goal.loop-i-init
 loop-i-init c = search (fill_begins, rules)
 
-pub bounds-angles-i : goal.bounds-angles-i
-bounds-angles-i c = search (fill_place, rules)
-
 pub loop-i-preserved : goal.loop-i-preserved
-loop-i-preserved c = search (angle-goes, rules)
+loop-i-preserved c =
+    fill_goes _ _ _ _ _ _ c.loop-i.invariant c.requires.long _ (omega arith) (elim c.if-i-size.branch [
+      | then-i-size w ↦
+          w.angle-is ∙ to_z-of_z w16 _ (record { sfits = w.signed.type_inv }) ∙ w.signed.ensures
+          ∙ angle_in _ _ _ (c.type_inv.file _).fits w.if-i-size.true
+      | else-i-size w ↦ w.angle-is ∙ angle-out _ _ _ w.if-i-size.false
+    ])
 
 pub returns : goal.returns
 unfolding angles_of_entries
-returns c = search (fill_ends, rules)
+returns c = fill_ends _ _ _ _ _ _ c.loop-i.invariant c.requires.long (omega arith)

@@ -1,8 +1,10 @@
--- `put::put_members` meets its contract: the entries of the members so far are written, with room for the others.
+-- `put::put_members` meets its contract. The invariant: the entries of the members below s are appended.
 use Prim.Native.Nat.{◌*◌}
-use Rattle.tables.specs.Format.{section_number}
-use Rattle.tables.proofs.Putting.{Members}
+use Rattle.outputs.specs.Appends.{Appends}
+use Rattle.tables.specs.Format.{entries_bytes}
+use Rattle.tables.specs.Inner.{section_named}
+use Rattle.tables.proofs.Putting.{members_up_to}
 use Rattle.tables.proofs.put.put_members.Given as goal
 
 abbrev pub invariant-loop-s : goal.invariant-loop-s
-invariant-loop-s l = Members (section_number l.section 0).kind (l.from * 65536) l.x.words l.initial.out l.start l.at l.out l.s
+invariant-loop-s l = Appends l.initial.out (entries_bytes (section_named l.section 0).kind (members_up_to (l.from * 65536) l.x.words l.s)) l.out
