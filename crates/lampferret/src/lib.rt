@@ -72,7 +72,7 @@ fn give<T: Copy>(a: Result<T, Refusal>, place: &mut T) -> u8
             *place = value;
             0
         }
-        Err(refusal) => u8::from(refusal),
+        Err(refused) => u8::from(refused),
     }
 }
 

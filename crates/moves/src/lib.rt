@@ -120,6 +120,7 @@ fn below(size: u16, from: u16) -> u16
 }
 
 // Word q of g, with no test.
+#[inline(always)]
 fn backward_word(moves: &[u64], size: u16, q: u16, x: StateSet) -> u64
     requires { q < 4 }
     ensures { result ≡ word_of size (ends_in moves.now x.words) q }
@@ -134,8 +135,9 @@ fn backward_word(moves: &[u64], size: u16, q: u16, x: StateSet) -> u64
     w
 }
 
-// g, with no test: every state below N all of whose moves end in x.
-pub fn backward(moves: &[u64], size: u16, x: StateSet) -> StateSet
+// g, with no test, word by word: `backward` has it twice, so it is inlined by force.
+#[inline(always)]
+fn backward_words(moves: &[u64], size: u16, x: StateSet) -> StateSet
     ensures { result.words ≡ backward256 size moves.now x.words }
 {
     StateSet {
@@ -145,6 +147,17 @@ pub fn backward(moves: &[u64], size: u16, x: StateSet) -> StateSet
             backward_word(moves, size, 2, x),
             backward_word(moves, size, 3, x),
         ],
+    }
+}
+
+// g, with no test: every state below N all of whose moves end in x. Of a move table of 1,024 words the compiler knows the
+// length, so that no row's place is tested.
+pub fn backward(moves: &[u64], size: u16, x: StateSet) -> StateSet
+    ensures { result.words ≡ backward256 size moves.now x.words }
+{
+    match moves.as_array::<1024>() {
+        Some(whole) => backward_words(whole, size, x),
+        None => backward_words(moves, size, x),
     }
 }
 

@@ -2,8 +2,7 @@
 ghost use Rattle.std.specs.Prelude.{◌≡◌};
 ghost use Rattle.tables.specs.Inner.{said_counts, counts_read};
 
-use crate::entry::Section;
-use crate::{Fault, Reader};
+use crate::{Fault, section_of};
 use answers::Refusal;
 
 // How many states, starts, safe states and moves a file has.
@@ -19,13 +18,11 @@ pub struct Counts {
 pub fn count(file: &[u8]) -> Result<Counts, Fault>
     ensures { said_counts result ≡ counts_read file.now }
 {
-    let states = Section::States.taken(&Reader { file, at: 0 }, 0)?;
+    let states = section_of(file, 0, 1, 0)?;
     let (size, at) = (states.number, states.next);
-    let starts = Section::Starts.taken(&Reader { file, at }, size)?;
-    let at = starts.next;
-    let safe = Section::Safe.taken(&Reader { file, at }, size)?;
-    let at = safe.next;
-    let moves = Section::Moves.taken(&Reader { file, at }, size)?;
+    let starts = section_of(file, at, 2, size)?;
+    let safe = section_of(file, starts.next, 3, size)?;
+    let moves = section_of(file, safe.next, 4, size)?;
     if moves.next < file.len() {
         return Err(Fault::new(Refusal::ExtraBytes, moves.next));
     }

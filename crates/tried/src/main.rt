@@ -14,6 +14,7 @@ use lent::{Lending, Lent, first};
 use print::{Decimal, Hex};
 use sets::StateSet;
 use std::io;
+use std::io::Read;
 
 // The call that a line asks for.
 fn call(rt: &impl Print, lent: &mut Lent) -> io::Result<()> {
@@ -69,7 +70,10 @@ fn step(rt: &impl Print, piece: &[u8], lent: &mut Lent) -> io::Result<()> {
 fn main(rt: HostRuntime) -> io::Result<()> {
     // a read that fails is the end of the script
     let mut text = [0; 32768];
-    let _ = inputs::read_full(&mut rt.stdin(), &mut text);
+    let mut done = 0;
+    while let Ok(n @ 1..) = rt.stdin().read(&mut text[done..]) {
+        done += n;
+    }
     let mut lent = Lent::NOTHING;
     for piece in text.split_inclusive(|b| *b == b'\n').take(2000) {
         step(&rt, piece, &mut lent)?;
