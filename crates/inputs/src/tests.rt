@@ -39,3 +39,13 @@ fn goes_on_after_short_reads(rt: HostRuntime) {
     assert!(rt; stop.is_err());
     assert_eq!(rt; b, [7, 7, 7, 0, 0]);
 }
+
+#[test]
+fn writes_no_more_than_it_read(rt: HostRuntime) {
+    let mut b = [1; 5];
+    let mut input: &[u8] = b"abc";
+    let (length, stop) = read_full(&mut input, &mut b);
+    assert_eq!(rt; length, 3);
+    assert!(rt; stop.is_ok());
+    assert_eq!(rt; b, *b"abc\x01\x01");
+}

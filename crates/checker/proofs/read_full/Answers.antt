@@ -1,6 +1,7 @@
 -- A read puts what the input loses after what the buffer has from before; one that fails, or gives nothing, leaves both as they were.
 use Rattle.std.proofs.Common.{rules, ◌≡◌, ℕ, ◌+◌, ◌-◌, ◌≤◌, List, ◌++◌, length, take, sym, ap, ◌∙◌, subst, le_refl, drop_at, length-take-le, drop}
 use Rattle.std.proofs.lemmas.Slice.{take-put_mid_below}
+use Rattle.std.specs.declared.option.Option.{Option}
 use Rattle.std.specs.Io.KnownBytes.{Consumes}
 use Rattle.std.proofs.KnownBytes.{Consumes-trans, Consumes-kept, Consumes-nil}
 use borrow.Rule.Slice.PartMut.{put_mid, post_of}
@@ -16,6 +17,10 @@ take-put_mid_on a k n xs ys within fits =
     ap (take n) (drop_at (take a xs) (ys ++ after) a (length-take-le a xs within)) ∙ take-append-le n ys after fits in
     ap (λ l. l ++ take n ys) (sym front) ∙ ap (λ l. take a (put_mid a k xs ys) ++ l) (sym rest) ∙ sym (take-add a n (put_mid a k xs ys))
 
+-- the same count, worked out otherwise
+counted : (known left : Option (List ℕ)) (b : List ℕ) (m n : ℕ) → Consumes known left (take m b) → m ≡ n → Consumes known left (take n b)
+counted known left b m n p e = subst (λ k. Consumes known left (take k b)) e p
+
 pub loop-done-init : goal.loop-done-init
 loop-done-init g c = (search rules, Consumes-nil _)
 
@@ -23,7 +28,8 @@ pub loop-done-preserved : goal.loop-done-preserved
 loop-done-preserved g c =
     let read = take-put_mid_on c.loop-done.done (length c.loop-done.b - c.loop-done.done) c.in-Ok.n c.loop-done.b c.read.new.buf
     c.loop-done.invariant.0 c.in-Ok.ensures.bound.0 in
-    (search rules, subst (Consumes _ _) read (Consumes-trans _ _ _ _ _ c.loop-done.invariant.1 c.in-Ok.ensures.bytes.0))
+    let read_on = subst (Consumes _ _) read (Consumes-trans _ _ _ _ _ c.loop-done.invariant.1 c.in-Ok.ensures.bytes.0) in
+    (search rules, counted _ _ _ _ _ read_on (search rules))
 
 pub returns-in-Err-clause-bytes : goal.returns-in-Err-clause-bytes
 returns-in-Err-clause-bytes g c =
